@@ -1,0 +1,37 @@
+-- Laws and proofs over the rules.
+-- What other crates cite: Steps (a call accepted or refused), Slots, Kept (the rules kept), KeptTest, Away (a value without the store), Answers.
+pub mod Laws
+pub mod Tests
+pub mod Accepts
+pub mod Steps
+pub mod Slots
+pub mod KeptParts
+pub mod Buffer
+-- parts of the invariant
+pub mod Invariant
+pub mod Workers
+pub mod Leases
+pub mod Words
+pub mod Sessions
+-- the rules that a plant keeps
+pub mod KeptSlots
+pub mod KeptSessions
+pub mod KeptTables
+pub mod KeptSetup
+pub mod KeptTerminals
+pub mod KeptWorkers
+pub mod Kept
+pub mod KeptTest
+pub mod Away
+-- demand 3
+pub mod InvariantTerminals
+pub mod InvariantWorkers
+pub mod InvariantSteps
+pub mod CommitOrder
+pub mod Prepare
+pub mod Drain
+pub mod Demand3
+pub mod Demand2
+pub mod Answers
+pub mod Edges
+pub mod Theorem

@@ -1,0 +1,25 @@
+-- Every claim, proved.
+use Rattle.rules.specs.Theorem.{Theorem}
+use Rattle.rules.proofs.Steps.{refusals-leave}
+use Rattle.rules.proofs.KeptTest.{setup-is-kept, kept-step}
+use Rattle.rules.proofs.Away.{known-away}
+use Rattle.rules.proofs.Demand3.{demand3}
+use Rattle.rules.proofs.Demand2.{reads-show, commit-leaves-store}
+use Rattle.rules.proofs.Answers.{some-pick, answers-count}
+use Rattle.rules.proofs.Edges.{edges, paper-run}
+
+pub theorem : Theorem
+theorem =
+    record {
+      refusalsLeave = refusals-leave;
+      setupKept = setup-is-kept;
+      stepKeeps = kept-step;
+      pickExists = some-pick;
+      knownAway = known-away;
+      readsShow = reads-show;
+      commitLeavesStore = commit-leaves-store;
+      answersCount = answers-count;
+      demand3 = demand3;
+      edges = edges;
+      paperRun = paper-run;
+    }
