@@ -13,7 +13,7 @@ use Rattle.rules.specs.Conditions.{everBegun}
 use Rattle.rules.specs.Kept.{numbersOf}
 use Rattle.rules.specs.History.{saw, wrote, Page, changesOf, changesNothing, Committed, History, whole, wholeHistory, does}
 use Rattle.rules.specs.Demand3.{Right, AllRight}
-use Rattle.rules.specs.Edges.{alone}
+use Rattle.rules.specs.Scenario.{alone}
 
 -- the pages left, worked at a stock, owe these batches: a quiet page changes nothing there, any other does what its batch does
 pub record Owed (S : Stock) (x : Committed) (b : Batch) : Type 0 where

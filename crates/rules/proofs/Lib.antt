@@ -33,5 +33,4 @@ pub mod Drain
 pub mod Demand3
 pub mod Demand2
 pub mod Answers
-pub mod Edges
 pub mod Theorem

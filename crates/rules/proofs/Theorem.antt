@@ -1,4 +1,6 @@
 -- Every claim, proved.
+use Rattle.rules.specs.Edges.{edges, paper-run}
+use Rattle.rules.specs.Runs.{runs}
 use Rattle.rules.specs.Theorem.{Theorem}
 use Rattle.rules.proofs.Steps.{refusals-leave}
 use Rattle.rules.proofs.KeptTest.{setup-is-kept, kept-step}
@@ -6,7 +8,6 @@ use Rattle.rules.proofs.Away.{known-away}
 use Rattle.rules.proofs.Demand3.{demand3}
 use Rattle.rules.proofs.Demand2.{reads-show, commit-leaves-store}
 use Rattle.rules.proofs.Answers.{some-pick, answers-count}
-use Rattle.rules.proofs.Edges.{edges, paper-run}
 
 pub theorem : Theorem
 theorem =
@@ -22,4 +23,5 @@ theorem =
       demand3 = demand3;
       edges = edges;
       paperRun = paper-run;
+      runs = runs;
     }

@@ -1,7 +1,4 @@
 -- What is claimed of one call, beside demand 3. Each claim is a type; the proof of it has its name in small letters.
-
--- ── demand 1 ──
--- a refused call leaves the plant and the words, but that refusals 3 and 4 end the session that met them
 use Prim.Native.Nat.{_*_, _-_, ℕ}
 use mathlib.Core.Path.{_≡_}
 use mathlib.Core.Bool.{false, true}
@@ -21,6 +18,8 @@ use Rattle.rules.specs.Step.{count, heldShared, heldExclusive, sessionOf
 use Rattle.rules.specs.Kept.{kept}
 use Rattle.rules.specs.History.{changesOf, History, wholeHistory, Turn, turns, AllAllowed, initial}
 
+-- ── demand 1 ──
+-- a refused call leaves the plant and the words, but that refusals 3 and 4 end the session that met them
 pub record Leaves (c : Call) (r : Refusal) (lent : List ℤ) (p : Plant) (o : Result) : Type 0 where
   pub words : o .words ≡ lent
   pub plant : endsSession r ≡ false → o .plant ≡ p

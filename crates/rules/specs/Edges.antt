@@ -1,54 +1,19 @@
 -- Both edges, marked to be proved: M1 to M12 of paper 01 as one table, and its run of the line program.
-
--- ── runs ──
--- an answer line: the refusal or 0, then the numbers
-use Prim.Native.Nat.{_*_, suc, zero, ℕ}
-use mathlib.Core.Path.{_≡_}
+use Prim.Native.Nat.{suc, zero, ℕ}
+use mathlib.Core.Path.{_≡_, refl}
 use mathlib.Core.List.{List, [], _++_, _∷_}
-use lib.ListN.{replicate}
 use lib.IntN.{negsuc, pos, ℤ}
-use Rattle.rules.specs.Limits.{placeLimit, wordsPerField, lowest, highest}
-use Rattle.rules.specs.Refusals.{seventhMember, sumTooLarge, refusalNumber}
-use Rattle.rules.specs.Values.{Place, absent, number, list}
-use Rattle.rules.specs.Changes.{Kind, set, inc, add, push, pull, kindNumber, becomes, fails, change}
-use Rattle.rules.specs.Tables.{Plant, setup}
-use Rattle.rules.specs.Calls.{Pair, arrives, lost, fateNumber, Call, Load, Map, Begin, Read, Change, Commit, Advance, Take, Apply, Cut, Report, Answer, refused, fine, Result}
-use Rattle.rules.specs.Step.{step}
-
-abbrev pub line : Answer → List ℕ
-line (refused r) = refusalNumber r ∷ []
-line (fine ns) = 0 ∷ ns
-
--- no choice is made in these runs; the longest key's words are lent
-abbrev pub alone : Call → Plant → Result
-alone c p = step c (replicate (wordsPerField * placeLimit) (pos 0)) (record { gives = 0; swept = [] }) p
-
-abbrev pub lines : List Call → Plant → List (List ℕ)
-lines [] p = []
-lines (c ∷ cs) p = line ((alone c p) .answer) ∷ lines cs ((alone c p) .plant)
-
-abbrev pub plantAfter : List Call → Plant → Plant
-plantAfter [] p = p
-plantAfter (c ∷ cs) p = plantAfter cs ((alone c p) .plant)
-
--- the place of the runs: document 0, field 0, shown by key 0
-abbrev pub origin : Place
-origin = record { document = 0; field = 0 }
-
-abbrev pub zeros : Pair
-zeros = record { document = pos 0; field = pos 0 }
-
-abbrev pub mapOrigin : Call
-mapOrigin = Map (pos 0) (pos 1) (record { first = zeros; second = zeros; third = zeros; fourth = zeros })
-
-abbrev pub readOrigin : ℕ → Call
-readOrigin s = Read (pos s) (pos 0)
-
-abbrev pub changeOrigin : ℕ → Kind → ℤ → Call
-changeOrigin s k v = Change (pos s) (pos 0) (pos 0) (pos (kindNumber k)) v
-
-abbrev pub load100 : Call
-load100 = Load (pos 0) (pos 0) (pos (kindNumber set)) (pos 100)
+use Rattle.rules.specs.Lists.{pushed}
+use Rattle.rules.specs.Limits.{lowest, highest}
+use Rattle.rules.specs.Refusals.{seventhMember, sumTooLarge, _⇒_}
+use Rattle.rules.specs.Values.{fits32, absent, number, list}
+use Rattle.rules.specs.Changes.{set, inc, add, push, pull, becomes, fails, member, pullFirst, putLast, change, outcomeRefusal, fieldOf, meets, updated, after}
+use Rattle.rules.specs.Tables.{documents, setup}
+use Rattle.rules.specs.Calls.{arrives, lost, fateNumber, Call, Begin, Commit, Advance, Take, Apply, Cut, Report}
+use Rattle.rules.specs.Conditions.{conditions}
+use Rattle.rules.specs.Effects.{loaded, mapped, begun, cacheAfter, onlyAt, afterRead, withExclusive, withLast, grant, changed, committed, lapses, lapse, loses, isLost, inDocuments, stays, advanced, taken, carried, applied, deleted, cut}
+use Rattle.rules.specs.Step.{accepted, step}
+use Rattle.rules.specs.Scenario.{lines, plantAfter, origin, mapOrigin, readOrigin, changeOrigin, load100}
 
 -- the run that paper 01 prints: 100, inc -25, taken by worker 0, its reply lost
 abbrev pub paperRun : List Call
@@ -92,6 +57,15 @@ pub record Edges : Type 0 where
   pub m12 : lines (Commit (pos 34) ∷ changeOrigin 33 set (pos 1) ∷ Commit (pos 33) ∷ []) (plantAfter (changingSessions 32 1 ++ (Begin ∷ Begin ∷ [])) setup)
       ≡ (0 ∷ 32 ∷ []) ∷ (0 ∷ 1 ∷ []) ∷ (15 ∷ []) ∷ []
 
+-- by computing
+pub edges : Edges
+unfolding setup step conditions accepted mapped loaded begun afterRead cacheAfter onlyAt changed committed grant lapse advanced taken applied carried deleted cut meets updated change member pullFirst putLast fits32 outcomeRefusal fieldOf after pushed _⇒_ documents withLast withExclusive lapses loses isLost inDocuments stays
+edges = record { m1 = refl; m2 = refl; m3 = refl; m4 = refl; m5 = refl; m6 = refl; m7 = refl; m8 = refl; m9 = refl; m10 = refl; m11 = (refl, refl); m12 = refl }
+
 -- what the line program prints for paper 01's run
 abbrev pub PaperRun : Type 0
 PaperRun = lines paperRun setup ≡ (0 ∷ []) ∷ (0 ∷ 1 ∷ []) ∷ (0 ∷ 1 ∷ []) ∷ (0 ∷ 1 ∷ []) ∷ (0 ∷ 1 ∷ []) ∷ (0 ∷ 0 ∷ []) ∷ []
+
+pub paper-run : PaperRun
+unfolding setup step conditions accepted loaded begun changed committed grant taken applied carried meets updated change fits32 outcomeRefusal fieldOf after pushed _⇒_ withLast withExclusive onlyAt
+paper-run = refl

@@ -1,7 +1,4 @@
 -- The rules that a plant's tables keep between calls: of the plant alone, without a history, as one test that computes.
-
--- ── the store ──
--- every place of the 256
 use Prim.Native.Nat.{_+_, suc, ℕ}
 use mathlib.Core.Bool.{Bool, _&&_, _||_, cond, not, true}
 use mathlib.Core.Option.{Option, none, some}
@@ -15,6 +12,8 @@ use Rattle.rules.specs.Changes.{run, accepts, setsIt, updateOk}
 use Rattle.rules.specs.Tables.{Lease, free, shared, exclusive, isHeld, isExclusive, documents, Session, Slot, Cached, Batch, isBuffered, isOldest, pending, changesIn, Hand, empty, holds, Queue, idle, leased, Plant}
 use Rattle.rules.specs.Reading.{current}
 
+-- ── the store ──
+-- every place of the 256
 abbrev pub allPlaces : (Place → Bool) → Bool
 allPlaces test = all (λ d. all (λ f. test (record { document = d; field = f })) (upto fieldCount)) documents
 

@@ -190,177 +190,34 @@ removable p n = not (isBuffered n (p .buffer)) && not (anyHand (p .hands) n)
 
 -- ── the plant with one table replaced ──
 abbrev pub withStore : Stock → Plant → Plant
-withStore s p =
-    record {
-      store = s;
-      keys = p .keys;
-      cache = p .cache;
-      slots = p .slots;
-      buffer = p .buffer;
-      rows = p .rows;
-      hands = p .hands;
-      queue = p .queue;
-      clock = p .clock;
-      near = p .near;
-      next = p .next;
-    }
+withStore s p = record { store = s; keys = p .keys; cache = p .cache; slots = p .slots; buffer = p .buffer; rows = p .rows; hands = p .hands; queue = p .queue; clock = p .clock; near = p .near; next = p .next }
 
 abbrev pub withKeys : (ℕ → List Place) → Plant → Plant
-withKeys k p =
-    record {
-      store = p .store;
-      keys = k;
-      cache = p .cache;
-      slots = p .slots;
-      buffer = p .buffer;
-      rows = p .rows;
-      hands = p .hands;
-      queue = p .queue;
-      clock = p .clock;
-      near = p .near;
-      next = p .next;
-    }
+withKeys k p = record { store = p .store; keys = k; cache = p .cache; slots = p .slots; buffer = p .buffer; rows = p .rows; hands = p .hands; queue = p .queue; clock = p .clock; near = p .near; next = p .next }
 
 abbrev pub withCache : List Cached → Plant → Plant
-withCache c p =
-    record {
-      store = p .store;
-      keys = p .keys;
-      cache = c;
-      slots = p .slots;
-      buffer = p .buffer;
-      rows = p .rows;
-      hands = p .hands;
-      queue = p .queue;
-      clock = p .clock;
-      near = p .near;
-      next = p .next;
-    }
+withCache c p = record { store = p .store; keys = p .keys; cache = c; slots = p .slots; buffer = p .buffer; rows = p .rows; hands = p .hands; queue = p .queue; clock = p .clock; near = p .near; next = p .next }
 
 abbrev pub withSlots : List Slot → Plant → Plant
-withSlots s p =
-    record {
-      store = p .store;
-      keys = p .keys;
-      cache = p .cache;
-      slots = s;
-      buffer = p .buffer;
-      rows = p .rows;
-      hands = p .hands;
-      queue = p .queue;
-      clock = p .clock;
-      near = p .near;
-      next = p .next;
-    }
+withSlots s p = record { store = p .store; keys = p .keys; cache = p .cache; slots = s; buffer = p .buffer; rows = p .rows; hands = p .hands; queue = p .queue; clock = p .clock; near = p .near; next = p .next }
 
 abbrev pub withBuffer : List Batch → Plant → Plant
-withBuffer b p =
-    record {
-      store = p .store;
-      keys = p .keys;
-      cache = p .cache;
-      slots = p .slots;
-      buffer = b;
-      rows = p .rows;
-      hands = p .hands;
-      queue = p .queue;
-      clock = p .clock;
-      near = p .near;
-      next = p .next;
-    }
+withBuffer b p = record { store = p .store; keys = p .keys; cache = p .cache; slots = p .slots; buffer = b; rows = p .rows; hands = p .hands; queue = p .queue; clock = p .clock; near = p .near; next = p .next }
 
 abbrev pub withRows : List ℕ → Plant → Plant
-withRows r p =
-    record {
-      store = p .store;
-      keys = p .keys;
-      cache = p .cache;
-      slots = p .slots;
-      buffer = p .buffer;
-      rows = r;
-      hands = p .hands;
-      queue = p .queue;
-      clock = p .clock;
-      near = p .near;
-      next = p .next;
-    }
+withRows r p = record { store = p .store; keys = p .keys; cache = p .cache; slots = p .slots; buffer = p .buffer; rows = r; hands = p .hands; queue = p .queue; clock = p .clock; near = p .near; next = p .next }
 
 abbrev pub withHand : ℕ → Hand → Plant → Plant
-withHand w h p =
-    record {
-      store = p .store;
-      keys = p .keys;
-      cache = p .cache;
-      slots = p .slots;
-      buffer = p .buffer;
-      rows = p .rows;
-      hands = override (p .hands) w h;
-      queue = p .queue;
-      clock = p .clock;
-      near = p .near;
-      next = p .next;
-    }
+withHand w h p = record { store = p .store; keys = p .keys; cache = p .cache; slots = p .slots; buffer = p .buffer; rows = p .rows; hands = override (p .hands) w h; queue = p .queue; clock = p .clock; near = p .near; next = p .next }
 
 abbrev pub withQueue : Queue → Plant → Plant
-withQueue q p =
-    record {
-      store = p .store;
-      keys = p .keys;
-      cache = p .cache;
-      slots = p .slots;
-      buffer = p .buffer;
-      rows = p .rows;
-      hands = p .hands;
-      queue = q;
-      clock = p .clock;
-      near = p .near;
-      next = p .next;
-    }
+withQueue q p = record { store = p .store; keys = p .keys; cache = p .cache; slots = p .slots; buffer = p .buffer; rows = p .rows; hands = p .hands; queue = q; clock = p .clock; near = p .near; next = p .next }
 
 abbrev pub withClock : ℕ → Plant → Plant
-withClock c p =
-    record {
-      store = p .store;
-      keys = p .keys;
-      cache = p .cache;
-      slots = p .slots;
-      buffer = p .buffer;
-      rows = p .rows;
-      hands = p .hands;
-      queue = p .queue;
-      clock = c;
-      near = p .near;
-      next = p .next;
-    }
+withClock c p = record { store = p .store; keys = p .keys; cache = p .cache; slots = p .slots; buffer = p .buffer; rows = p .rows; hands = p .hands; queue = p .queue; clock = c; near = p .near; next = p .next }
 
 abbrev pub withNear : Bool → Plant → Plant
-withNear n p =
-    record {
-      store = p .store;
-      keys = p .keys;
-      cache = p .cache;
-      slots = p .slots;
-      buffer = p .buffer;
-      rows = p .rows;
-      hands = p .hands;
-      queue = p .queue;
-      clock = p .clock;
-      near = n;
-      next = p .next;
-    }
+withNear n p = record { store = p .store; keys = p .keys; cache = p .cache; slots = p .slots; buffer = p .buffer; rows = p .rows; hands = p .hands; queue = p .queue; clock = p .clock; near = n; next = p .next }
 
 abbrev pub withNext : ℕ → Plant → Plant
-withNext n p =
-    record {
-      store = p .store;
-      keys = p .keys;
-      cache = p .cache;
-      slots = p .slots;
-      buffer = p .buffer;
-      rows = p .rows;
-      hands = p .hands;
-      queue = p .queue;
-      clock = p .clock;
-      near = p .near;
-      next = n;
-    }
+withNext n p = record { store = p .store; keys = p .keys; cache = p .cache; slots = p .slots; buffer = p .buffer; rows = p .rows; hands = p .hands; queue = p .queue; clock = p .clock; near = p .near; next = n }

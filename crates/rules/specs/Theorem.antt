@@ -2,7 +2,8 @@
 use Rattle.rules.specs.Reading.{knownAway}
 use Rattle.rules.specs.Claims.{RefusalsLeave, SetupKept, StepKeeps, PickExists, KnownAway, ReadsShow, CommitLeavesStore, AnswersCount}
 use Rattle.rules.specs.Demand3.{Demand3}
-use Rattle.rules.specs.Edges.{paperRun, Edges, PaperRun}
+use Rattle.rules.specs.Edges.{paperRun, Edges, edges, PaperRun}
+use Rattle.rules.specs.Runs.{Runs, runs}
 
 pub record Theorem : Type 0 where
   pub refusalsLeave : RefusalsLeave
@@ -16,3 +17,4 @@ pub record Theorem : Type 0 where
   pub demand3 : Demand3
   pub edges : Edges
   pub paperRun : PaperRun
+  pub runs : Runs
