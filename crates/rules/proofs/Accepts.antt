@@ -31,14 +31,16 @@ accepts-join s (c ∷ a) b e d =
     both (isNone (meets c (s (c .at)))) (accepts (follow s (c ∷ [])) (a ++ b)) (h .0) (accepts-join (follow s (c ∷ [])) a b (h .1) d)
 
 -- stocks that agree on the changes' places accept alike
-pub accepts-agree : (f : Place → Bool) (s t : Stock) (cs : List Update) → all (λ c. f (c .at)) cs ≡ true → ((q : Place) → f q ≡ true → s q ≡ t q) → accepts s cs ≡ true → accepts t cs ≡ true
+pub accepts-agree : (f : Place → Bool) (s t : Stock) (cs : List Update) → all (λ c. f (c .at)) cs ≡ true → ((q : Place) → f q ≡ true → s q ≡ t q)
+    → accepts s cs ≡ true → accepts t cs ≡ true
 unfolding after
 accepts-agree f s t [] h g e = refl
 accepts-agree f s t (c ∷ cs) h g e =
     let d = and-true (isNone (meets c (s (c .at)))) (accepts (follow s (c ∷ [])) cs) e in
     both (isNone (meets c (t (c .at)))) (accepts (follow t (c ∷ [])) cs)
     (ap (λ z. isNone (meets c z)) (sym (g (c .at) (all-head (λ x. f (x .at)) c cs h))) ∙ d .0)
-    (accepts-agree f (follow s (c ∷ [])) (follow t (c ∷ [])) cs (all-tail (λ x. f (x .at)) c cs h) (λ q z. ap (λ x. cond (samePlace q (c .at)) (updated c x) x) (g q z)) (d .1))
+    (accepts-agree f (follow s (c ∷ [])) (follow t (c ∷ [])) cs (all-tail (λ x. f (x .at)) c cs h)
+    (λ q z. ap (λ x. cond (samePlace q (c .at)) (updated c x) x) (g q z)) (d .1))
 
 pub accepts-one : (s : Stock) (c : Update) → meets c (s (c .at)) ≡ none → accepts s (c ∷ []) ≡ true
 accepts-one s c e = both (isNone (meets c (s (c .at)))) true (ap isNone e) refl
@@ -48,7 +50,8 @@ pub run-elsewhere : (cs : List Update) (q : Place) (f : Field) → all (λ c. no
 unfolding after
 run-elsewhere [] q f h = refl
 run-elsewhere (c ∷ cs) q f h =
-    ap (λ b. run cs q (cond (b && eqb (q .field) (c .at .field)) (updated c f) f)) (not-true (eqb (q .document) (c .at .document)) (all-head (λ x. not (eqb (q .document) (x .at .document))) c cs h))
+    ap (λ b. run cs q (cond (b && eqb (q .field) (c .at .field)) (updated c f) f))
+    (not-true (eqb (q .document) (c .at .document)) (all-head (λ x. not (eqb (q .document) (x .at .document))) c cs h))
     ∙ run-elsewhere cs q f (all-tail (λ x. not (eqb (q .document) (x .at .document))) c cs h)
 
 -- ── fields stay well formed ──
@@ -61,7 +64,8 @@ pull-all : (f : ℤ → Bool) (v : ℤ) (l : List ℤ) → all f l ≡ true → 
 unfolding pullFirst
 pull-all f v [] e = refl
 pull-all f v (w ∷ l) e =
-    byCase (eqZ w v) (λ t. rw t (all-tail f w l e)) (λ t. rw t (both (f w) (all f (pullFirst v l)) (all-head f w l e) (pull-all f v l (all-tail f w l e))))
+    byCase (eqZ w v) (λ t. rw t (all-tail f w l e))
+    (λ t. rw t (both (f w) (all f (pullFirst v l)) (all-head f w l e) (pull-all f v l (all-tail f w l e))))
 
 put-ok : (v : ℤ) (l : List ℤ) → fits32 v ≡ true → fieldOk (list l) ≡ true → fieldOk (fieldOf (putLast v l) (list l)) ≡ true
 unfolding putLast fieldOf
@@ -93,14 +97,17 @@ change-ok pull v absent g e = e
 change-ok pull v (number a) g e = e
 change-ok pull v (list l) g e =
     let h = and-true (leb (length l) memberLimit) (all fits32 l) e in
-    both (leb (length (pullFirst v l)) memberLimit) (all fits32 (pullFirst v l)) (le-leb (length (pullFirst v l)) memberLimit (omega (arith, pull-length v l, leb-true (length l) memberLimit (h .0)))) (pull-all fits32 v l (h .1))
+    both (leb (length (pullFirst v l)) memberLimit) (all fits32 (pullFirst v l))
+    (le-leb (length (pullFirst v l)) memberLimit (omega (arith, pull-length v l, leb-true (length l) memberLimit (h .0))))
+    (pull-all fits32 v l (h .1))
 
 pub run-ok : (cs : List Update) (q : Place) (f : Field) → all updateOk cs ≡ true → fieldOk f ≡ true → fieldOk (run cs q f) ≡ true
 unfolding updated after
 run-ok [] q f h e = e
 run-ok (c ∷ cs) q f h e =
     run-ok cs q (after q f c) (all-tail updateOk c cs h)
-    (byCase (samePlace q (c .at)) (λ t. rw t (change-ok (c .kind) (c .value) f (and-true (inRange (c .at)) (goodValue (c .kind) (c .value)) (all-head updateOk c cs h) .1) e)) (λ t. rw t e))
+    (byCase (samePlace q (c .at)) (λ t. rw t
+    (change-ok (c .kind) (c .value) f (and-true (inRange (c .at)) (goodValue (c .kind) (c .value)) (all-head updateOk c cs h) .1) e)) (λ t. rw t e))
 
 -- ── what stands before a set or unset is irrelevant ──
 eff-set : (c : Update) (f g : Field) → isSet (c .kind) ≡ true → updated c f ≡ updated c g

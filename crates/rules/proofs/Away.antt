@@ -27,36 +27,44 @@ field-at : (s : Stock) (q : Place) (qs : List Place) → any (samePlace q) qs �
 field-at s q [] e = absurd (true≢false (sym e))
 field-at s q (r ∷ qs) e = byCase (samePlace q r) (λ t. rw t (ap s (sym (samePlace-is q r t)))) (λ t. rw t (field-at s q qs (rw t at e)))
 
-pub cached-shows : (now : Stock) (keys : ℕ → List Place) (q : Place) (l : List Cached) → CachedRight now keys l → any (showsIt keys q) l ≡ true → cachedField keys q l ≡ now q
+pub cached-shows : (now : Stock) (keys : ℕ → List Place) (q : Place) (l : List Cached) → CachedRight now keys l → any (showsIt keys q) l ≡ true
+    → cachedField keys q l ≡ now q
 unfolding showsIt
 cached-shows now keys q [] h e = absurd (true≢false (sym e))
 cached-shows now keys q (c ∷ l) h e =
     byCase (showsIt keys q c)
-    (λ t. ap (λ b. cond b (fieldAt q (keys (c .key)) (c .fields)) (cachedField keys q l)) t ∙ ap (fieldAt q (keys (c .key))) (h .0) ∙ field-at now q (keys (c .key)) t)
-    (λ t. ap (λ b. cond b (fieldAt q (keys (c .key)) (c .fields)) (cachedField keys q l)) t ∙ cached-shows now keys q l (h .1) (ap (λ b. cond b true (any (showsIt keys q) l)) (sym t) ∙ e))
+    (λ t. ap (λ b. cond b (fieldAt q (keys (c .key)) (c .fields)) (cachedField keys q l)) t ∙ ap (fieldAt q (keys (c .key))) (h .0) ∙ field-at now q
+    (keys (c .key)) t)
+    (λ t. ap (λ b. cond b (fieldAt q (keys (c .key)) (c .fields)) (cachedField keys q l)) t ∙ cached-shows now keys q l (h .1)
+    (ap (λ b. cond b true (any (showsIt keys q) l)) (sym t) ∙ e))
 
 -- ── the buffer's newest set or unset, with a row or without ──
-pub buffer-shows : (store : Stock) (rows : List ℕ) (next : ℕ) (l : List Batch) (q : Place) → inRange q ≡ true → BufferKept store rows next l → setsIt (changesIn l) q ≡ true
+pub buffer-shows : (store : Stock) (rows : List ℕ) (next : ℕ) (l : List Batch) (q : Place) → inRange q ≡ true → BufferKept store rows next l
+    → setsIt (changesIn l) q ≡ true
     → run (changesIn l) q absent ≡ follow store (changesIn (pending rows l)) q
 buffer-shows store rows next [] q r k e = absurd (true≢false (sym e))
 buffer-shows store rows next (b ∷ l) q r k e =
     byCase (has (b .number) rows)
     (λ t. applied t (ap (λ z. cond (not z) (b ∷ pending rows l) (pending rows l)) t ∙ tail-is))
-    (λ t. run-set (changesIn (b ∷ l)) q absent (store q) e ∙ ap (λ z. run (changesIn z) q (store q)) (sym (ap (λ z. cond (not z) (b ∷ pending rows l) (pending rows l)) t ∙ ap (λ z. b ∷ z) tail-is)))
+    (λ t. run-set (changesIn (b ∷ l)) q absent (store q) e ∙ ap (λ z. run (changesIn z) q (store q))
+    (sym (ap (λ z. cond (not z) (b ∷ pending rows l) (pending rows l)) t ∙ ap (λ z. b ∷ z) tail-is)))
   where
     tail-is : pending rows l ≡ l
     tail-is = pending-free rows l (k .tail)
 
-    applied : has (b .number) rows ≡ true → pending rows (b ∷ l) ≡ l → run (changesIn (b ∷ l)) q absent ≡ follow store (changesIn (pending rows (b ∷ l))) q
+    applied : has (b .number) rows ≡ true → pending rows (b ∷ l) ≡ l
+        → run (changesIn (b ∷ l)) q absent ≡ follow store (changesIn (pending rows (b ∷ l))) q
     applied t p =
         run-append (b .changes) (changesIn l) q absent
         ∙ byCase (setsIt (b .changes) q)
         (λ u. ap (run (changesIn l) q) (sym (k .shown t q r u)))
-        (λ u. run-set (changesIn l) q (run (b .changes) q absent) (store q) (ap (λ z. z || setsIt (changesIn l) q) (sym u) ∙ sym (sets-append (b .changes) (changesIn l) q) ∙ e))
+        (λ u. run-set (changesIn l) q (run (b .changes) q absent) (store q)
+        (ap (λ z. z || setsIt (changesIn l) q) (sym u) ∙ sym (sets-append (b .changes) (changesIn l) q) ∙ e))
         ∙ ap (λ z. run (changesIn z) q (store q)) (sym p)
 
 -- ── the value without the store ──
-pub seen-away : (p : Plant) (own : List Update) (q : Place) → Kept p → inRange q ≡ true → knownAway (p .keys) (p .cache) (p .buffer) own q ≡ true → seenAway (p .keys) (p .cache) (p .buffer) own q ≡ seen p own q
+pub seen-away : (p : Plant) (own : List Update) (q : Place) → Kept p → inRange q ≡ true → knownAway (p .keys) (p .cache) (p .buffer) own q ≡ true
+    → seenAway (p .keys) (p .cache) (p .buffer) own q ≡ seen p own q
 unfolding seenAway
 seen-away p own q k r e =
     byCase (setsIt own q)
@@ -64,7 +72,8 @@ seen-away p own q k r e =
     (λ t. rw t (ap (run own q)
     (byCase (setsIt (changesIn (p .buffer)) q)
     (λ u. rw u (buffer-shows (p .store) (p .rows) (p .next) (p .buffer) q r (k .buffer) u))
-    (λ u. rw u (cached-shows (current p) (p .keys) q (p .cache) (k .cache .fields) (last (any (showsIt (p .keys) q) (p .cache)) (setsIt (changesIn (p .buffer)) q) (setsIt own q) u t e))))))
+    (λ u. rw u (cached-shows (current p) (p .keys) q (p .cache) (k .cache .fields)
+    (last (any (showsIt (p .keys) q) (p .cache)) (setsIt (changesIn (p .buffer)) q) (setsIt own q) u t e))))))
   where
     last : (a b c : Bool) → b ≡ false → c ≡ false → a || b || c ≡ true → a ≡ true
     last true b c x y z = refl
@@ -79,7 +88,8 @@ pub value-is : (p : Plant) (own : List Update) (q : Place) → Kept p → inRang
 value-is p own q k r e =
     byCase (p .near)
     (λ t. ap (λ b. cond b (seen p own q) (seenAway (p .keys) (p .cache) (p .buffer) own q)) t)
-    (λ t. ap (λ b. cond b (seen p own q) (seenAway (p .keys) (p .cache) (p .buffer) own q)) t ∙ seen-away p own q k r (away (p .near) (knownAway (p .keys) (p .cache) (p .buffer) own q) t e))
+    (λ t. ap (λ b. cond b (seen p own q) (seenAway (p .keys) (p .cache) (p .buffer) own q)) t ∙ seen-away p own q k r
+    (away (p .near) (knownAway (p .keys) (p .cache) (p .buffer) own q) t e))
   where
     away : (a b : Bool) → a ≡ false → a || b ≡ true → b ≡ true
     away true b x y = absurd (true≢false x)

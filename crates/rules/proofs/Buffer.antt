@@ -1,5 +1,5 @@
 -- Laws of lists of numbers, of the buffer with its rows, and of hands.
-use Prim.Native.Nat.{_<_, _≤_, suc, zero, ℕ}
+use Prim.Native.Nat.{_<_, _≤_, ℕ}
 use native.Mathlib.Omega.{arith}
 use mathlib.Core.Path.{_∙_, _≡_, ap, refl, sym}
 use mathlib.Core.Bool.{Bool, _&&_, _||_, false, not, true, true≢false}
@@ -9,13 +9,12 @@ use lib.ListN.{length}
 use lib.Dec.{eqb, leb}
 use borrow.Author.Tests.{eqb-true, leb-false}
 use Rattle.rules.specs.Lists.{keep, all, isEmpty, has, without}
-use Rattle.rules.specs.Limits.{bufferLimit, rowLimit}
+use Rattle.rules.specs.Limits.{bufferLimit, rowLimit, workerCount}
 use Rattle.rules.specs.Changes.{Update}
-use Rattle.rules.specs.Tables.{Batch, isBuffered, oldest, isOldest, unbuffer, pending, Hand, empty, holds, full, replied, handed, inHand, anyHand, Plant, removable}
+use Rattle.rules.specs.Tables.{Batch, numbersOf, isBuffered, oldest, isOldest, unbuffer, pending, Hand, empty, holds, full, replied, handed, inHand, anyHand, Plant, removable}
 use Rattle.rules.specs.Effects.{carried}
-use Rattle.rules.specs.Kept.{numbersOf}
 use Rattle.rules.proofs.Laws.{byCase, self, eqb-sym, pushed-room}
-use Rattle.rules.proofs.Tests.{Once, all-head, all-tail}
+use Rattle.rules.proofs.Tests.{Once, all-head, all-tail, any-upto}
 use Rattle.rules.proofs.KeptParts.{NoRows, TailFree, HandOk}
 
 -- ── lists ──
@@ -43,7 +42,8 @@ isOldest-oldest [] e = sym e
 isOldest-oldest (b ∷ l) e = self (b .number)
 
 -- no row and a full hand: the hand's session is the oldest buffered one
-pub is-oldest : (rows : List ℕ) (buffer : List Batch) (x : Hand) → full x ≡ true → has (handed x) rows ≡ false → HandOk rows buffer x → isOldest (handed x) buffer ≡ true
+pub is-oldest : (rows : List ℕ) (buffer : List Batch) (x : Hand) → full x ≡ true → has (handed x) rows ≡ false → HandOk rows buffer x
+    → isOldest (handed x) buffer ≡ true
 is-oldest rows buffer empty f z h = cc
 is-oldest rows buffer (holds m r) f z (inl y) = cc
 is-oldest rows buffer (holds m r) f z (inr y) = y .1
@@ -66,7 +66,8 @@ has-last n rows = byCase (has n rows) (λ e. has-snoc-true n n rows e) (λ e. rw
 pub noRows-snoc : (n : ℕ) (rows : List ℕ) (l : List Batch) → has n (numbersOf l) ≡ false → NoRows rows l → NoRows (rows ++ (n ∷ [])) l
 noRows-snoc n rows [] h r = tt
 noRows-snoc n rows (b ∷ l) h r =
-    byCase (eqb n (b .number)) (λ e. absurd (true≢false (rw e at h))) (λ e. (has-snoc-false (b .number) n rows (r .0) (eqb-sym n (b .number) e), noRows-snoc n rows l (rw e at h) (r .1)))
+    byCase (eqb n (b .number)) (λ e. absurd (true≢false (rw e at h)))
+    (λ e. (has-snoc-false (b .number) n rows (r .0) (eqb-sym n (b .number) e), noRows-snoc n rows l (rw e at h) (r .1)))
 
 pub once-snoc : (n : ℕ) (l : List ℕ) → has n l ≡ false → Once l → Once (l ++ (n ∷ []))
 once-snoc n [] h o = (refl, tt)
@@ -107,7 +108,8 @@ nums-unbuffer n (b ∷ l) = byCase (eqb n (b .number)) (λ e. rw e (nums-unbuffe
 
 pub length-unbuffer : (n : ℕ) (l : List Batch) → length (unbuffer n l) ≤ length l
 length-unbuffer n [] = omega arith
-length-unbuffer n (b ∷ l) = byCase (eqb n (b .number)) (λ e. rw e (omega (arith, length-unbuffer n l))) (λ e. rw e (omega (arith, length-unbuffer n l)))
+length-unbuffer n (b ∷ l) =
+    byCase (eqb n (b .number)) (λ e. rw e (omega (arith, length-unbuffer n l))) (λ e. rw e (omega (arith, length-unbuffer n l)))
 
 pub has-keep-false : (f : ℕ → Bool) (m : ℕ) (l : List ℕ) → has m l ≡ false → has m (keep f l) ≡ false
 has-keep-false f m [] h = refl
@@ -141,12 +143,14 @@ length-keep-less f x [] h e = absurd (true≢false (sym h))
 length-keep-less f x (y ∷ l) h e =
     byCase (eqb x y)
     (λ t. rw (← eqb-true x y t, e) (omega (arith, length-keep f l)))
-    (λ t. byCase (f y) (λ u. rw u (omega (arith, length-keep-less f x l (rw t at h) e))) (λ u. rw u (omega (arith, length-keep-less f x l (rw t at h) e))))
+    (λ t. byCase (f y) (λ u. rw u (omega (arith, length-keep-less f x l (rw t at h) e)))
+    (λ u. rw u (omega (arith, length-keep-less f x l (rw t at h) e))))
 
 pub not-swept : (f : ℕ → Bool) (m : ℕ) (l : List ℕ) → all f l ≡ true → f m ≡ false → has m l ≡ false
 not-swept f m [] a e = refl
 not-swept f m (k ∷ l) a e =
-    byCase (eqb m k) (λ t. absurd (true≢false (sym (all-head f k l a) ∙ ap f (sym (eqb-true m k t)) ∙ e))) (λ t. rw t (not-swept f m l (all-tail f k l a) e))
+    byCase (eqb m k) (λ t. absurd (true≢false (sym (all-head f k l a) ∙ ap f (sym (eqb-true m k t)) ∙ e)))
+    (λ t. rw t (not-swept f m l (all-tail f k l a) e))
 
 pub has-kept : (s : List ℕ) (m : ℕ) (l : List ℕ) → has m s ≡ false → has m (keep (λ n. not (has n s)) l) ≡ has m l
 has-kept s m [] h = refl
@@ -155,7 +159,8 @@ has-kept s m (k ∷ l) h =
     (λ t. rw t (byCase (eqb m k) (λ e. absurd (true≢false (sym t ∙ rw (← eqb-true m k e) h))) (λ e. rw e (has-kept s m l h))))
     (λ t. rw t (byCase (eqb m k) (λ e. rw e) (λ e. rw e (has-kept s m l h))))
 
-pub pending-rows : (rows rows′ : List ℕ) (l : List Batch) → ((n : ℕ) → has n (numbersOf l) ≡ true → has n rows′ ≡ has n rows) → pending rows′ l ≡ pending rows l
+pub pending-rows : (rows rows′ : List ℕ) (l : List Batch) → ((n : ℕ) → has n (numbersOf l) ≡ true → has n rows′ ≡ has n rows)
+    → pending rows′ l ≡ pending rows l
 pending-rows rows rows′ [] h = refl
 pending-rows rows rows′ (b ∷ l) h =
     go (pending-rows rows rows′ l (λ n e. h n (byCase (eqb n (b .number)) (λ t. rw t) (λ t. rw t e))))
@@ -171,19 +176,14 @@ pub tailFree-keep : (f : ℕ → Bool) (rows : List ℕ) (l : List Batch) → Ta
 tailFree-keep f rows [] r = tt
 tailFree-keep f rows (b ∷ l) r = tail-keep f rows l r
 
-pub hand-keep : (rows rows′ : List ℕ) (l : List Batch) (x : Hand) → ((n : ℕ) → inHand n x ≡ true → has n rows′ ≡ has n rows) → HandOk rows l x → HandOk rows′ l x
+pub hand-keep : (rows rows′ : List ℕ) (l : List Batch) (x : Hand) → ((n : ℕ) → inHand n x ≡ true → has n rows′ ≡ has n rows) → HandOk rows l x
+    → HandOk rows′ l x
 hand-keep rows rows′ l empty h y = tt
 hand-keep rows rows′ l (holds m r) h (inl y) = inl (h m (self m) ∙ y)
 hand-keep rows rows′ l (holds m r) h (inr y) = inr y
 
-pub in-any : (hands : ℕ → Hand) (n v : ℕ) → v < 4 → inHand n (hands v) ≡ true → anyHand hands n ≡ true
-in-any hands n zero h e = rw e
-in-any hands n (suc zero) h e = byCase (inHand n (hands 0)) (λ t. rw t) (λ t. rw (t, e))
-in-any hands n (suc (suc zero)) h e = byCase (inHand n (hands 0)) (λ t. rw t) (λ t. rw t (byCase (inHand n (hands 1)) (λ u. rw u) (λ u. rw (u, e))))
-in-any hands n (suc (suc (suc zero))) h e =
-    byCase (inHand n (hands 0)) (λ t. rw t)
-    (λ t. rw t (byCase (inHand n (hands 1)) (λ u. rw u) (λ u. rw u (byCase (inHand n (hands 2)) (λ x. rw x) (λ x. rw (x, e))))))
-in-any hands n (suc (suc (suc (suc v)))) h e = absurd (omega arith)
+pub in-any : (hands : ℕ → Hand) (n v : ℕ) → v < workerCount → inHand n (hands v) ≡ true → anyHand hands n ≡ true
+in-any hands n v h e = any-upto (λ w. inHand n (hands w)) workerCount v h e
 
 pub buffered-nums : (n : ℕ) (l : List Batch) → isBuffered n l ≡ has n (numbersOf l)
 buffered-nums n [] = refl
@@ -213,7 +213,8 @@ hand-last rows [] m (holds n r) (inr y) = absurd (true≢false (sym (y .1)))
 hand-last rows (b ∷ l) m (holds n r) (inr y) = inr y
 
 -- changes find room in the buffer
-pub buffer-room : (cs : List Update) (l : List Batch) → not (isEmpty cs) && leb bufferLimit (length l) ≡ false → isEmpty cs ≡ false → length l < bufferLimit
+pub buffer-room : (cs : List Update) (l : List Batch) → not (isEmpty cs) && leb bufferLimit (length l) ≡ false → isEmpty cs ≡ false
+    → length l < bufferLimit
 buffer-room cs l r e = byCase (leb bufferLimit (length l)) (λ t. absurd (true≢false (rw (e, t) at r))) (λ t. leb-false bufferLimit (length l) t)
 
 -- ── a carried session ──
@@ -227,7 +228,8 @@ row-room n rows r e = byCase (leb rowLimit (length rows)) (λ t. absurd (true≢
 
 pub carried-row : (n : ℕ) (p : Plant) → leb rowLimit (length (p .rows)) && not (has n (p .rows)) ≡ false → has n ((carried n p) .rows) ≡ true
 unfolding carried
-carried-row n p r = byCase (has n (p .rows)) (λ e. rw e e) (λ e. rw (e, pushed-room rowLimit (p .rows) n (row-room n (p .rows) r e)) (has-last n (p .rows)))
+carried-row n p r =
+    byCase (has n (p .rows)) (λ e. rw e e) (λ e. rw (e, pushed-room rowLimit (p .rows) n (row-room n (p .rows) r e)) (has-last n (p .rows)))
 
 pub carried-hands : (n : ℕ) (p : Plant) → (carried n p) .hands ≡ p .hands
 unfolding carried

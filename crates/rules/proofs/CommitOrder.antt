@@ -73,15 +73,20 @@ not-gone next slots s l a h = not-swept (isGone next slots) s l a (rw h (and-fal
 
 -- ── the slots change ──
 module _ {commits : List Committed} {buffered : List ℕ} {next : ℕ} {slots : List Slot} (o : Order commits buffered next slots) where
-  order-slots : (next′ : ℕ) (slots′ : List Slot) → ((n : ℕ) → n < next → hasSlot n slots ≡ false → isGone next′ slots′ n ≡ true) → Order commits buffered next′ slots′
+  order-slots : (next′ : ℕ) (slots′ : List Slot) → ((n : ℕ) → n < next → hasSlot n slots ≡ false → isGone next′ slots′ n ≡ true)
+      → Order commits buffered next′ slots′
   order-slots next′ slots′ h =
       record {
-        gone = all-imp (isGone next slots) (isGone next′ slots′) (λ n e. let g = and-true (ltb n next) (not (hasSlot n slots)) e in h n (ltb-true n next (g .0)) (not-true (hasSlot n slots) (g .1))) (numbersIn commits) (o .gone);
+        gone =
+            all-imp (isGone next slots) (isGone next′ slots′)
+            (λ n e. let g = and-true (ltb n next) (not (hasSlot n slots)) e in h n (ltb-true n next (g .0)) (not-true (hasSlot n slots) (g .1)))
+            (numbersIn commits) (o .gone);
         order = o .order;
       }
 
   pub order-freed : (s : ℕ) → Order commits buffered next (freed s slots)
-  order-freed s = order-slots next (freed s slots) (λ n lt e. rw (lt-ltb n next lt, hasSlot-freed s n slots, e) (byCase (eqb n s) (λ t. rw t) (λ t. rw t)))
+  order-freed s =
+      order-slots next (freed s slots) (λ n lt e. rw (lt-ltb n next lt, hasSlot-freed s n slots, e) (byCase (eqb n s) (λ t. rw t) (λ t. rw t)))
 
   pub order-each : (f : ℕ → Session → Session) → Order commits buffered next (each f slots)
   order-each f = order-slots next (each f slots) (λ n lt e. rw (lt-ltb n next lt, hasSlot-each f n slots, e) refl)
@@ -99,7 +104,9 @@ module _ {commits : List Committed} {buffered : List ℕ} {next : ℕ} {slots : 
       → Order (commits ++ (x ∷ [])) (cond (changesNothing (x .page)) buffered (buffered ++ (x .number ∷ []))) next (freed (x .number) slots)
   order-commit x h lt =
       record {
-        gone = rw numbers (all-snoc (isGone next (freed s slots)) (numbersIn commits) s (order-freed s .gone) (rw (lt, hasSlot-freed s s slots, self s) refl));
+        gone =
+            rw numbers (all-snoc (isGone next (freed s slots)) (numbersIn commits) s (order-freed s .gone)
+            (rw (lt, hasSlot-freed s s slots, self s) refl));
         order = byCase (changesNothing (x .page)) (λ e. rw (e, numbers) quiet) (λ e. rw (e, numbers) changing);
       }
     where
@@ -118,22 +125,28 @@ module _ {commits : List Committed} {buffered : List ℕ} {next : ℕ} {slots : 
       quiet : buffered ≡ keep (λ n. has n buffered) (numbersIn commits ++ (s ∷ []))
       quiet =
           o .order
-          ∙ sym (keep-append (λ n. has n buffered) (numbersIn commits) (s ∷ []) ∙ ap (λ b. keep (λ n. has n buffered) (numbersIn commits) ++ cond b (s ∷ []) []) unbuffered ∙ append-nil (keep (λ n. has n buffered) (numbersIn commits)))
+          ∙ sym (keep-append (λ n. has n buffered) (numbersIn commits) (s ∷ []) ∙ ap
+          (λ b. keep (λ n. has n buffered) (numbersIn commits) ++ cond b (s ∷ []) []) unbuffered ∙ append-nil
+          (keep (λ n. has n buffered) (numbersIn commits)))
 
       other : (n : ℕ) → has n (numbersIn commits) ≡ true → has n (buffered ++ (s ∷ [])) ≡ has n buffered
-      other n e = has-append n buffered (s ∷ []) ∙ rw (ne-eqb n s (λ q. true≢false (sym e ∙ ap (λ m. has m (numbersIn commits)) q ∙ new))) (or-zero (has n buffered))
+      other n e =
+          has-append n buffered (s ∷ []) ∙ rw (ne-eqb n s (λ q. true≢false (sym e ∙ ap (λ m. has m (numbersIn commits)) q ∙ new)))
+          (or-zero (has n buffered))
 
       changing : buffered ++ (s ∷ []) ≡ keep (λ n. has n (buffered ++ (s ∷ []))) (numbersIn commits ++ (s ∷ []))
       changing =
           ap (λ l. l ++ (s ∷ [])) (o .order ∙ sym (keep-same (λ n. has n (buffered ++ (s ∷ []))) (λ n. has n buffered) (numbersIn commits) other))
-          ∙ sym (keep-append (λ n. has n (buffered ++ (s ∷ []))) (numbersIn commits) (s ∷ []) ∙ ap (λ b. keep (λ n. has n (buffered ++ (s ∷ []))) (numbersIn commits) ++ cond b (s ∷ []) []) (has-last s buffered))
+          ∙ sym (keep-append (λ n. has n (buffered ++ (s ∷ []))) (numbersIn commits) (s ∷ []) ∙ ap
+          (λ b. keep (λ n. has n (buffered ++ (s ∷ []))) (numbersIn commits) ++ cond b (s ∷ []) []) (has-last s buffered))
 
   pub order-delete : (n : ℕ) → Order commits (without n buffered) next slots
   order-delete n =
       record {
         gone = o .gone;
         order = ap (without n) (o .order) ∙ keep-keep (λ m. not (eqb n m)) (λ m. has m buffered) (numbersIn commits)
-            ∙ keep-same (λ m. has m buffered && not (eqb n m)) (λ m. has m (without n buffered)) (numbersIn commits) (λ m e. sym (has-without n m buffered));
+            ∙ keep-same (λ m. has m buffered && not (eqb n m)) (λ m. has m (without n buffered)) (numbersIn commits)
+            (λ m e. sym (has-without n m buffered));
       }
 
 -- ── every call ──
@@ -142,13 +155,17 @@ order-accepted : (c : Call) (lent : List ℤ) (pick : Pick) (h : History) (p : P
 unfolding accepted conditions note loaded mapped begun afterRead changed committed abandoned advanced taken applied deleted cut swept
 order-accepted (Load d f kd v) lent pick h p m k o = o
 order-accepted (Map ky n qs) lent pick h p m k o = o
-order-accepted Begin lent pick h p m k o = rw (pushed-room slotLimit (room (p .slots)) (opened (p .next) (p .clock)) (room-fits (p .slots) (k .slots .few) (not-met _ _ (m .1 .0)))) (order-begun with-room (p .clock))
+order-accepted Begin lent pick h p m k o =
+    rw (pushed-room slotLimit (room (p .slots)) (opened (p .next) (p .clock)) (room-fits (p .slots) (k .slots .few) (not-met _ _ (m .1 .0))))
+    (order-begun with-room (p .clock))
   where
     with-room : Order (h .commits) (h .buffered) (p .next) (room (p .slots))
     with-room = byCase (leb slotLimit (length (p .slots))) (λ e. rw e (order-freed o (firstDoomed (p .slots)))) (λ e. rw e o)
 order-accepted (Read s ky) lent pick h p m k o = order-each o (onlyAt (natOf s) (withShared (p .clock) (p .keys (natOf ky))))
 order-accepted (Change s d f kd v) lent pick h p m k o = order-each o (grant (p .clock) (natOf s) (updateOf (placeOf d f) (natOf kd) v))
-order-accepted (Commit s) lent pick h p m k o = order-commit o (record { number = natOf s; page = h .page (natOf s) }) there (and-true (leb 1 (natOf s)) (ltb (natOf s) (p .next)) (number-look (goodNumber (p .next)) (natOf s) (p .slots) (k .slots .numbers) there) .1)
+order-accepted (Commit s) lent pick h p m k o =
+    order-commit o (record { number = natOf s; page = h .page (natOf s) }) there
+    (and-true (leb 1 (natOf s)) (ltb (natOf s) (p .next)) (number-look (goodNumber (p .next)) (natOf s) (p .slots) (k .slots .numbers) there) .1)
   where
     there : hasSlot (natOf s) (p .slots) ≡ true
     there = has-slot (natOf s) (p .slots) (not-met _ _ (m .1 .0))
@@ -182,14 +199,17 @@ pub order-step : (c : Call) (lent : List ℤ) (pick : Pick) (h : History) (p : P
 unfolding step
 order-step c lent pick h p k o = go (first (conditions c lent p)) refl
   where
-    go : (x : Option Refusal) → first (conditions c lent p) ≡ x → OrderAt (noteAnswer c ((settle x c lent pick p) .answer) ((settle x c lent pick p) .words) h) ((settle x c lent pick p) .plant)
+    go : (x : Option Refusal) → first (conditions c lent p) ≡ x
+        → OrderAt (noteAnswer c ((settle x c lent pick p) .answer) ((settle x c lent pick p) .words) h) ((settle x c lent pick p) .plant)
     go none e = order-accepted c lent pick h p (none-met (conditions c lent p) e) k o
     go (some r) e = order-refused h p c r o
 
-pub order-turns : (ts : List Turn) (w : World) → AllAllowed ts (w .plant) → Kept (w .plant) → OrderAt (w .history) (w .plant) → OrderAt ((turns ts w) .history) ((turns ts w) .plant)
+pub order-turns : (ts : List Turn) (w : World) → AllAllowed ts (w .plant) → Kept (w .plant) → OrderAt (w .history) (w .plant)
+    → OrderAt ((turns ts w) .history) ((turns ts w) .plant)
 order-turns [] w f k o = o
 order-turns (t ∷ ts) w f k o =
-    order-turns ts (turn t w) (f .1) (step-keeps (t .call) (t .lent) (t .pick) (w .plant) (f .0) k) (order-step (t .call) (t .lent) (t .pick) (w .history) (w .plant) k o)
+    order-turns ts (turn t w) (f .1) (step-keeps (t .call) (t .lent) (t .pick) (w .plant) (f .0) k)
+    (order-step (t .call) (t .lent) (t .pick) (w .history) (w .plant) k o)
 
 pub order-initial : OrderAt (initial .history) (initial .plant)
 unfolding initial setup emptyHistory

@@ -4,20 +4,19 @@ use native.Mathlib.Omega.{arith}
 use mathlib.Core.Path.{_∙_, _≡_, ap, refl, sym}
 use mathlib.Core.Bool.{Bool, _&&_, false, not, true, true≢false}
 use mathlib.Core.Option.{some}
-use mathlib.Core.List.{List, [], _++_, _∷_, head-eq-of-cons-eq, nil≢cons, tail-eq-of-cons-eq}
+use mathlib.Core.List.{List, [], _++_, _∷_, head-eq-of-cons-eq, map, nil≢cons, tail-eq-of-cons-eq}
 use lib.ListN.{length, length-append}
 use lib.Dec.{eqb}
 use lib.IntN.{pos, ℤ}
 use borrow.Author.Tests.{eqb-true, lt-leb, lt-ltb}
-use Rattle.rules.specs.Lists.{keep, any, all, isEmpty, has, without}
+use Rattle.rules.specs.Lists.{keep, any, all, isEmpty, has, without, upto}
 use Rattle.rules.specs.Limits.{rowLimit, workerCount}
 use Rattle.rules.specs.Refusals.{queueLeased, wrongHand, _⇒_}
-use Rattle.rules.specs.Tables.{Batch, isBuffered, unbuffer, Hand, empty, holds, full, handed, inHand, anyHand, leased, isLeased, Plant, removable, withHand}
+use Rattle.rules.specs.Tables.{Batch, numbersOf, isBuffered, unbuffer, Hand, empty, holds, full, handed, inHand, anyHand, leased, isLeased, Plant, removable, withHand}
 use Rattle.rules.specs.Calls.{Call, Take, Apply, Delete, Sweep, Answer, Pick}
 use Rattle.rules.specs.Conditions.{conditions}
 use Rattle.rules.specs.Effects.{room, taken, carried, applied, deleted, swept}
 use Rattle.rules.specs.Step.{accepted, step, Allowed}
-use Rattle.rules.specs.Kept.{numbersOf}
 use Rattle.rules.specs.History.{Turn, World, does, turn, turns, AllAllowed}
 use Rattle.rules.specs.Demand3.{fourCalls, rounds, callsOf, isFine, NoneRefused}
 use Rattle.rules.specs.Scenario.{near}
@@ -38,7 +37,12 @@ pub record Ready (v : ℕ) (p : Plant) : Type 0 where
 pub once-length : (l m : List ℕ) → Once l → ((n : ℕ) → has n l ≡ true → has n m ≡ true) → length l ≤ length m
 once-length [] m o h = omega arith
 once-length (x ∷ l) m o h =
-    omega (arith, once-length l (without x m) (o .1) (λ n e. kept n e (h n (byCase (eqb n x) (λ t. rw t) (λ t. rw t e)))), length-keep-less (λ k. not (eqb x k)) x m (h x (rw (self x))) (rw (self x)))
+    omega (
+      arith,
+      once-length l (without x m) (o .1) (λ n e. kept n e (h n (byCase (eqb n x) (λ t. rw t) (λ t. rw t e)))),
+      length-keep-less
+          (λ k. not (eqb x k)) x m (h x (rw (self x))) (rw (self x)),
+    )
   where
     stays : (n : ℕ) (k : List ℕ) → eqb x n ≡ false → has n k ≡ true → has n (without x k) ≡ true
     stays n [] e g = g
@@ -52,7 +56,7 @@ once-length (x ∷ l) m o h =
 
 -- the rows that no sweep may remove: 32 buffered sessions and 4 hands, fewer than 48
 abbrev pub inHands : Plant → List ℕ
-inHands p = handed (p .hands 0) ∷ handed (p .hands 1) ∷ handed (p .hands 2) ∷ handed (p .hands 3) ∷ []
+inHands p = map (λ w. handed (p .hands w)) (upto workerCount)
 
 abbrev pub heldRows : Plant → List ℕ
 heldRows p = numbersOf (p .buffer) ++ inHands p
@@ -67,19 +71,11 @@ has-left n a b e = rw (has-append n a b, e)
 pub has-right : (n : ℕ) (a b : List ℕ) → has n b ≡ true → has n (a ++ b) ≡ true
 has-right n a b e = rw (has-append n a b, e) (or-one (has n a))
 
-pub in-hands : (p : Plant) (n : ℕ) → anyHand (p .hands) n ≡ true → has n (inHands p) ≡ true
-in-hands p n e =
-    byCase (inHand n (p .hands 0)) (λ u. rw (in-hand-is n (p .hands 0) u))
-    (λ u. byCase (eqb n (handed (p .hands 0))) (λ y. rw y)
-    (λ y. rw y
-    (byCase (inHand n (p .hands 1)) (λ u1. rw (in-hand-is n (p .hands 1) u1))
-    (λ u1. byCase (eqb n (handed (p .hands 1))) (λ y1. rw y1)
-    (λ y1. rw y1
-    (byCase (inHand n (p .hands 2)) (λ u2. rw (in-hand-is n (p .hands 2) u2))
-    (λ u2. byCase (eqb n (handed (p .hands 2))) (λ y2. rw y2)
-    (λ y2. rw y2
-    (byCase (inHand n (p .hands 3)) (λ u3. rw (in-hand-is n (p .hands 3) u3))
-    (λ u3. absurd (true≢false (sym (rw (u, u1, u2, u3) at e)))))))))))))
+pub in-hands : (hands : ℕ → Hand) (n : ℕ) (l : List ℕ) → any (λ w. inHand n (hands w)) l ≡ true → has n (map (λ w. handed (hands w)) l) ≡ true
+in-hands hands n [] e = absurd (true≢false (sym e))
+in-hands hands n (w ∷ l) e =
+    byCase (eqb n (handed (hands w))) (λ t. rw t)
+    (λ t. rw t (in-hands hands n l (rw (byCase (inHand n (hands w)) (λ u. absurd (true≢false (sym (in-hand-is n (hands w) u) ∙ t))) (λ u. u)) at e)))
 
 pub length-nums : (l : List Batch) → length (numbersOf l) ≡ length l
 length-nums [] = refl
@@ -88,7 +84,8 @@ length-nums (b ∷ l) = ap suc (length-nums l)
 pub any-false : (f : ℕ → Bool) (n : ℕ) (l : List ℕ) → any f l ≡ false → has n l ≡ true → f n ≡ false
 any-false f n [] e h = absurd (true≢false (sym h))
 any-false f n (x ∷ l) e h =
-    byCase (f x) (λ t. absurd (true≢false (rw t at e))) (λ t. byCase (eqb n x) (λ u. rw (eqb-true n x u) t) (λ u. any-false f n l (rw t at e) (rw u at h)))
+    byCase (f x) (λ t. absurd (true≢false (rw t at e)))
+    (λ t. byCase (eqb n x) (λ u. rw (eqb-true n x u) t) (λ u. any-false f n l (rw t at e) (rw u at h)))
 
 -- after a sweep there is room for a row
 pub swept-room : (p : Plant) (pick : Pick) → Kept p → Allowed pick p → length ((swept (pick .swept) p) .rows) < rowLimit
@@ -98,10 +95,16 @@ swept-room p pick i al = byCase (any (removable p) (p .rows)) some-go none-left
     l : List ℕ
     l = pick .swept
 
-    less : (k : List ℕ) → all (λ n. has n (p .rows) && removable p n) k ≡ true → k ≡ l → isEmpty k ≡ false → length (keep (λ n. not (has n l)) (p .rows)) < rowLimit
+    less : (k : List ℕ) → all (λ n. has n (p .rows) && removable p n) k ≡ true → k ≡ l → isEmpty k ≡ false
+        → length (keep (λ n. not (has n l)) (p .rows)) < rowLimit
     less [] a q e = absurd (true≢false e)
     less (x ∷ k) a q e =
-        omega (arith, i .rows .few, length-keep-less (λ n. not (has n l)) x (p .rows) (and-true (has x (p .rows)) (removable p x) (all-head (λ n. has n (p .rows) && removable p n) x k a) .0) (rw (← q) (rw (self x))))
+        omega (
+          arith,
+          i .rows .few,
+          length-keep-less (λ n. not (has n l)) x (p .rows)
+              (and-true (has x (p .rows)) (removable p x) (all-head (λ n. has n (p .rows) && removable p n) x k a) .0) (rw (← q) (rw (self x))),
+        )
 
     some-go : any (removable p) (p .rows) ≡ true → length (keep (λ n. not (has n l)) (p .rows)) < rowLimit
     some-go e = less l (al .removes) refl (al .atLeast e)
@@ -110,11 +113,19 @@ swept-room p pick i al = byCase (any (removable p) (p .rows)) some-go none-left
     held e n g =
         byCase (isBuffered n (p .buffer))
         (λ t. has-left n (numbersOf (p .buffer)) (inHands p) (sym (buffered-nums n (p .buffer)) ∙ t))
-        (λ t. byCase (anyHand (p .hands) n) (λ u. has-right n (numbersOf (p .buffer)) (inHands p) (in-hands p n u)) (λ u. absurd (true≢false (rw (t, u) at (any-false (removable p) n (p .rows) e g)))))
+        (λ t. byCase (anyHand (p .hands) n) (λ u. has-right n (numbersOf (p .buffer)) (inHands p) (in-hands (p .hands) n (upto workerCount) u))
+        (λ u. absurd (true≢false (rw (t, u) at (any-false (removable p) n (p .rows) e g)))))
 
     none-left : any (removable p) (p .rows) ≡ false → length (keep (λ n. not (has n l)) (p .rows)) < rowLimit
-    none-left e = omega
-        (arith, length-keep (λ n. not (has n l)) (p .rows), once-length (p .rows) (heldRows p) (i .rows .once) (held e), length-append (numbersOf (p .buffer)) (inHands p), length-nums (p .buffer), i .buffer .few)
+    none-left e = omega (
+      arith,
+      length-keep (λ n. not (has n l)) (p .rows),
+      once-length (p .rows) (heldRows p) (i .rows .once) (held e),
+      length-append
+          (numbersOf (p .buffer)) (inHands p),
+      length-nums (p .buffer),
+      i .buffer .few,
+    )
 
 -- ── the four calls ──
 pub record Stage (v : ℕ) (r : Bool) (b : Batch) (l : List Batch) (p : Plant) : Type 0 where
@@ -134,19 +145,22 @@ round-take v b l lent k p lt r e =
     (refl, record { near = r .near; hand = rw (self v, e); buffer = e; queue = refl })
 
 pub round-sweep : (v : ℕ) (b : Batch) (l : List Batch) (lent : List ℤ) (k : Pick) (p : Plant) → Stage v false b l p
-    → Fine ((step Sweep lent k p) .answer) × Stage v false b l ((step Sweep lent k p) .plant) × (((step Sweep lent k p) .plant) .rows ≡ (swept (k .swept) p) .rows)
+    → Fine ((step Sweep lent k p) .answer) × Stage v false b l ((step Sweep lent k p) .plant) ×
+    (((step Sweep lent k p) .plant) .rows ≡ (swept (k .swept) p) .rows)
 unfolding conditions accepted swept _⇒_
 round-sweep v b l lent k p s =
     rw (step-fine Sweep lent k p (rw (s .near), tt)) (refl, record { near = s .near; hand = s .hand; buffer = s .buffer; queue = s .queue }, refl)
 
-pub carried-stage : (v n : ℕ) (b : Batch) (l : List Batch) (p : Plant) → Stage v false b l p → Stage v true b l (withHand v (holds (b .number) true) (carried n p))
+pub carried-stage : (v n : ℕ) (b : Batch) (l : List Batch) (p : Plant) → Stage v false b l p
+    → Stage v true b l (withHand v (holds (b .number) true) (carried n p))
 unfolding carried
 carried-stage v n b l p s =
     byCase (has n (p .rows))
     (λ e. rw e (record { near = s .near; hand = rw (self v); buffer = s .buffer; queue = s .queue }))
     (λ e. rw e (record { near = s .near; hand = rw (self v); buffer = s .buffer; queue = s .queue }))
 
-pub round-apply : (v : ℕ) (b : Batch) (l : List Batch) (lent : List ℤ) (k : Pick) (p : Plant) → v < workerCount → Stage v false b l p → length (p .rows) < rowLimit
+pub round-apply : (v : ℕ) (b : Batch) (l : List Batch) (lent : List ℤ) (k : Pick) (p : Plant) → v < workerCount → Stage v false b l p
+    → length (p .rows) < rowLimit
     → Fine ((step (Apply (pos v) (pos 0)) lent k p) .answer) × Stage v true b l ((step (Apply (pos v) (pos 0)) lent k p) .plant)
 unfolding conditions accepted applied _⇒_
 round-apply v b l lent k p lt s room =
@@ -157,14 +171,21 @@ round-apply v b l lent k p lt s room =
 
 pub unbuffer-none : (n : ℕ) (l : List Batch) → has n (numbersOf l) ≡ false → unbuffer n l ≡ l
 unbuffer-none n [] h = refl
-unbuffer-none n (b ∷ l) h = byCase (eqb n (b .number)) (λ e. absurd (true≢false (rw e at h))) (λ e. rw e (ap (λ z. b ∷ z) (unbuffer-none n l (rw e at h))))
+unbuffer-none n (b ∷ l) h =
+    byCase (eqb n (b .number)) (λ e. absurd (true≢false (rw e at h))) (λ e. rw e (ap (λ z. b ∷ z) (unbuffer-none n l (rw e at h))))
 
-pub round-delete : (v : ℕ) (b : Batch) (l : List Batch) (lent : List ℤ) (k : Pick) (p : Plant) → v < workerCount → Stage v true b l p → has (b .number) (numbersOf l) ≡ false
-    → Fine ((step (Delete (pos v)) lent k p) .answer) × Ready v ((step (Delete (pos v)) lent k p) .plant) × (((step (Delete (pos v)) lent k p) .plant) .buffer ≡ l)
+pub round-delete : (v : ℕ) (b : Batch) (l : List Batch) (lent : List ℤ) (k : Pick) (p : Plant) → v < workerCount → Stage v true b l p
+    → has (b .number) (numbersOf l) ≡ false
+    → Fine ((step (Delete (pos v)) lent k p) .answer) × Ready v ((step (Delete (pos v)) lent k p) .plant) ×
+    (((step (Delete (pos v)) lent k p) .plant) .buffer ≡ l)
 unfolding conditions accepted deleted _⇒_
 round-delete v b l lent k p lt s o =
-    rw (step-fine (Delete (pos v)) lent k p (rw (lt-ltb v workerCount lt), (rw (s .hand), tt)))
-    (refl, record { near = s .near; hand = rw (self v); queue = rw (s .queue, self v) }, rw (s .hand, s .buffer, self (b .number)) (unbuffer-none (b .number) l o))
+    rw (step-fine (Delete (pos v)) lent k p (rw (lt-ltb v workerCount lt), (rw (s .hand), tt))) (
+      refl,
+      record { near = s .near; hand = rw (self v); queue = rw (s .queue, self v) },
+      rw (s .hand, s .buffer, self (b .number))
+          (unbuffer-none (b .number) l o),
+    )
 
 pub uncons : (l : List Batch) (n : ℕ) → length l ≡ suc n → (b : Batch) × (k : List Batch) × (l ≡ b ∷ k) × (length k ≡ n)
 uncons [] n e = absurd (omega arith)
@@ -182,17 +203,21 @@ pub record Rounded (v : ℕ) (l : List Batch) (ts : List Turn) (w : World) : Typ
   pub ready : Ready v ((turns ts w) .plant)
   pub buffer : ((turns ts w) .plant) .buffer ≡ l
 
-pub a-round : (v : ℕ) → v < workerCount → (b : Batch) (l : List Batch) (t₁ t₂ t₃ t₄ : Turn) (w : World) → Makes v t₁ t₂ t₃ t₄ → Kept (w .plant) → Ready v (w .plant)
+pub a-round : (v : ℕ) → v < workerCount → (b : Batch) (l : List Batch) (t₁ t₂ t₃ t₄ : Turn) (w : World) → Makes v t₁ t₂ t₃ t₄ → Kept (w .plant)
+    → Ready v (w .plant)
     → (w .plant) .buffer ≡ b ∷ l → AllAllowed (t₁ ∷ t₂ ∷ t₃ ∷ t₄ ∷ []) (w .plant) → Rounded v l (t₁ ∷ t₂ ∷ t₃ ∷ t₄ ∷ []) w
 a-round v lt b l t₁ t₂ t₃ t₄ w m i r e f =
-    let s₁ : Fine ((does t₁ (w .plant)) .answer) × Stage v false b l ((does t₁ (w .plant)) .plant) = rw (m .one) (round-take v b l (t₁ .lent) (t₁ .pick) (w .plant) lt r e) in
+    let s₁ : Fine ((does t₁ (w .plant)) .answer) × Stage v false b l ((does t₁ (w .plant)) .plant) = rw (m .one)
+    (round-take v b l (t₁ .lent) (t₁ .pick) (w .plant) lt r e) in
     let w₁ = turn t₁ w in
     let i₁ : Kept (w₁ .plant) = step-keeps (t₁ .call) (t₁ .lent) (t₁ .pick) (w .plant) (f .0) i in
-    let s₂ : Fine ((does t₂ (w₁ .plant)) .answer) × Stage v false b l ((does t₂ (w₁ .plant)) .plant) × (((does t₂ (w₁ .plant)) .plant) .rows ≡ (swept ((t₂ .pick) .swept) (w₁ .plant)) .rows) =
+    let s₂ : Fine ((does t₂ (w₁ .plant)) .answer) × Stage v false b l ((does t₂ (w₁ .plant)) .plant) ×
+    (((does t₂ (w₁ .plant)) .plant) .rows ≡ (swept ((t₂ .pick) .swept) (w₁ .plant)) .rows) =
     rw (m .two) (round-sweep v b l (t₂ .lent) (t₂ .pick) (w₁ .plant) (s₁ .1)) in
     let w₂ = turn t₂ w₁ in
     let room : length ((w₂ .plant) .rows) < rowLimit = rw (s₂ .2) (swept-room (w₁ .plant) (t₂ .pick) i₁ (f .1 .0)) in
-    let s₃ : Fine ((does t₃ (w₂ .plant)) .answer) × Stage v true b l ((does t₃ (w₂ .plant)) .plant) = rw (m .three) (round-apply v b l (t₃ .lent) (t₃ .pick) (w₂ .plant) lt (s₂ .1) room) in
+    let s₃ : Fine ((does t₃ (w₂ .plant)) .answer) × Stage v true b l ((does t₃ (w₂ .plant)) .plant) = rw (m .three)
+    (round-apply v b l (t₃ .lent) (t₃ .pick) (w₂ .plant) lt (s₂ .1) room) in
     let w₃ = turn t₃ w₂ in
     let once : has (b .number) (numbersOf l) ≡ false = (rw e at (i .buffer .once)) .0 in
     let s₄ : Fine ((does t₄ (w₃ .plant)) .answer) × Ready v ((does t₄ (w₃ .plant)) .plant) × (((does t₄ (w₃ .plant)) .plant) .buffer ≡ l) =
@@ -200,7 +225,8 @@ a-round v lt b l t₁ t₂ t₃ t₄ w m i r e f =
     record { noneRefused = (s₁ .0, (s₂ .0, (s₃ .0, (s₄ .0, tt)))); ready = s₄ .1; buffer = s₄ .2 }
 
 -- ── all rounds ──
-pub makes : (v : ℕ) (t₁ t₂ t₃ t₄ : Turn) (us : List Turn) (cs : List Call) → callsOf (t₁ ∷ t₂ ∷ t₃ ∷ t₄ ∷ us) ≡ fourCalls v ++ cs → Makes v t₁ t₂ t₃ t₄ × (callsOf us ≡ cs)
+pub makes : (v : ℕ) (t₁ t₂ t₃ t₄ : Turn) (us : List Turn) (cs : List Call) → callsOf (t₁ ∷ t₂ ∷ t₃ ∷ t₄ ∷ us) ≡ fourCalls v ++ cs
+    → Makes v t₁ t₂ t₃ t₄ × (callsOf us ≡ cs)
 makes v t₁ t₂ t₃ t₄ us cs e =
     let e₁ = tail-eq-of-cons-eq e in
     let e₂ = tail-eq-of-cons-eq e₁ in
@@ -211,7 +237,8 @@ pub nil-length : (l : List Batch) → length l ≡ 0 → l ≡ []
 nil-length [] e = refl
 nil-length (b ∷ l) e = absurd (omega arith)
 
-pub all-rounds : (v : ℕ) → v < workerCount → (n : ℕ) (us : List Turn) (w : World) → callsOf us ≡ rounds v n → length ((w .plant) .buffer) ≡ n → Kept (w .plant) → Ready v (w .plant)
+pub all-rounds : (v : ℕ) → v < workerCount → (n : ℕ) (us : List Turn) (w : World) → callsOf us ≡ rounds v n → length ((w .plant) .buffer) ≡ n
+    → Kept (w .plant) → Ready v (w .plant)
     → AllAllowed us (w .plant) → Rounded v [] us w
 all-rounds v lt zero [] w c e i r f = record { noneRefused = tt; ready = r; buffer = nil-length _ e }
 all-rounds v lt zero (t ∷ us) w c e i r f = absurd (nil≢cons (sym c))

@@ -7,10 +7,9 @@ use Rattle.rules.specs.Lists.{isEmpty}
 use Rattle.rules.specs.Limits.{workerCount}
 use Rattle.rules.specs.Values.{Place, number, Stock}
 use Rattle.rules.specs.Changes.{Update, follow}
-use Rattle.rules.specs.Tables.{Lease, isHeld, isExclusive, Session, session, Batch, pending, Hand, full, handed, Plant}
+use Rattle.rules.specs.Tables.{Lease, isHeld, isExclusive, Session, session, Batch, numbersOf, pending, Hand, full, handed, Plant}
 use Rattle.rules.specs.Calls.{done}
 use Rattle.rules.specs.Conditions.{everBegun}
-use Rattle.rules.specs.Kept.{numbersOf}
 use Rattle.rules.specs.History.{saw, wrote, Page, changesOf, changesNothing, Committed, History, whole, wholeHistory, does}
 use Rattle.rules.specs.Demand3.{Right, AllRight}
 use Rattle.rules.specs.Scenario.{alone}
@@ -23,10 +22,13 @@ pub record Owed (S : Stock) (x : Committed) (b : Batch) : Type 0 where
 
 pub data Owes : Stock → List Committed → List Batch → Type 0 where
   none-owed : {S : Stock} → Owes S [] []
-  skips : {S : Stock} {x : Committed} {l : List Committed} {bs : List Batch} → changesNothing (x .page) ≡ true → follow S (changesOf (x .page)) ≡ S → Owes S l bs → Owes S (x ∷ l) bs
-  owes : {S : Stock} {x : Committed} {l : List Committed} {b : Batch} {bs : List Batch} → Owed S x b → Owes (follow S (changesOf (x .page))) l bs → Owes S (x ∷ l) (b ∷ bs)
+  skips : {S : Stock} {x : Committed} {l : List Committed} {bs : List Batch} → changesNothing (x .page) ≡ true → follow S (changesOf (x .page)) ≡ S
+      → Owes S l bs → Owes S (x ∷ l) bs
+  owes : {S : Stock} {x : Committed} {l : List Committed} {b : Batch} {bs : List Batch} → Owed S x b → Owes (follow S (changesOf (x .page))) l bs
+      → Owes S (x ∷ l) (b ∷ bs)
 
-pub record Workers (start : Stock) (commits : List Committed) (buffered : List ℕ) (noted : ℕ → ℕ) (store : Stock) (buffer : List Batch) (rows : List ℕ) (hands : ℕ → Hand) : Type 0 where
+pub record Workers (start : Stock) (commits : List Committed) (buffered : List ℕ) (noted : ℕ → ℕ) (store : Stock) (buffer : List Batch)
+    (rows : List ℕ) (hands : ℕ → Hand) : Type 0 where
   pub done : List Committed
   pub left : List Committed
   pub split : commits ≡ done ++ left

@@ -67,7 +67,8 @@ owes-nil S S′ l bs e none-owed = none-owed
 owes-nil S S′ l bs e (skips q d o) = absurd (nil≢cons (sym e))
 owes-nil S S′ l bs e (owes d o) = absurd (nil≢cons (sym e))
 
-pub inv-load : {h : History} {p : Plant} (d f k v : ℤ) (ws : List ℤ) → everBegun p ≡ false → Kept p → Inv h p → Inv (note (Load d f k v) [] ws h) (loaded (updateOf (placeOf d f) (natOf k) v) p)
+pub inv-load : {h : History} {p : Plant} (d f k v : ℤ) (ws : List ℤ) → everBegun p ≡ false → Kept p → Inv h p
+    → Inv (note (Load d f k v) [] ws h) (loaded (updateOf (placeOf d f) (natOf k) v) p)
 unfolding note loaded
 inv-load {h} {p} d f k v ws e kp i =
     record {
@@ -82,7 +83,10 @@ inv-load {h} {p} d f k v ws e kp i =
             hand = i .workers .hand;
           };
       alone = rw (i .early e) tt;
-      sessions = record { live = λ n d. absurd (true≢false (rw (numbers-nil (λ s. s .number) (p .next) (p .slots) (kp .slots .numbers) e) at d)); apart = i .sessions .apart };
+      sessions = record {
+        live = λ n d. absurd (true≢false (rw (numbers-nil (λ s. s .number) (p .next) (p .slots) (kp .slots .numbers) e) at d));
+        apart = i .sessions .apart;
+      };
       keys = i .keys;
       early = i .early;
     }
@@ -93,7 +97,8 @@ inv-load {h} {p} d f k v ws e kp i =
     nothing : i .workers .done ≡ []
     nothing = nil-left (i .workers .done) (i .workers .left) (sym (i .workers .split) ∙ i .early e)
 
-pub inv-map : {h : History} {p : Plant} (k n : ℤ) (m : Pairs) (ws : List ℤ) → everBegun p ≡ false → Inv h p → Inv (note (Map k n m) [] ws h) (mapped (natOf k) (take (natOf n) (placesOf m)) p)
+pub inv-map : {h : History} {p : Plant} (k n : ℤ) (m : Pairs) (ws : List ℤ) → everBegun p ≡ false → Inv h p
+    → Inv (note (Map k n m) [] ws h) (mapped (natOf k) (take (natOf n) (placesOf m)) p)
 unfolding note mapped
 inv-map {h} {p} k n m ws e i =
     record {
@@ -105,14 +110,18 @@ inv-map {h} {p} k n m ws e i =
     }
 
 -- ── begin ──
-pub inv-begin : {h : History} {p : Plant} (ws : List ℤ) → leb slotLimit (length (p .slots)) && not (any (λ s. (s .session) .doomed) (p .slots)) ≡ false → Kept p → Inv h p → Inv (note Begin (p .next ∷ []) ws h) (begun p)
+pub inv-begin : {h : History} {p : Plant} (ws : List ℤ)
+    → leb slotLimit (length (p .slots)) && not (any (λ s. (s .session) .doomed) (p .slots)) ≡ false → Kept p → Inv h p → Inv
+    (note Begin (p .next ∷ []) ws h) (begun p)
 unfolding note begun
 inv-begin {h} {p} ws r kp i =
     record {
       workers = i .workers;
       alone = i .alone;
       sessions = rw (pushed-room slotLimit (room (p .slots)) (opened (p .next) (p .clock)) (room-fits (p .slots) (kp .slots .few) r))
-          (sessions-cast _ (sessions-open (λ m. hasSlot m (room (p .slots))) (p .next) (p .clock) (no-next (p .next) (room (p .slots)) (slots-room (kp .slots) .numbers)) with-room) (λ m. session-snoc m (room (p .slots)) (opened (p .next) (p .clock))));
+          (sessions-cast _ (sessions-open (λ m. hasSlot m (room (p .slots))) (p .next) (p .clock)
+          (no-next (p .next) (room (p .slots)) (slots-room (kp .slots) .numbers)) with-room) (λ m. session-snoc m (room (p .slots))
+          (opened (p .next) (p .clock))));
       keys = i .keys;
       early = λ e. absurd (true≢false (sym (lt-ltb 1 (suc (p .next)) (omega (arith, kp .begun))) ∙ e));
     }
@@ -125,16 +134,20 @@ inv-begin {h} {p} ws r kp i =
 
 -- ── read ──
 -- the kept changes do what the page's changes do
-pub own-is : {h : History} {p : Plant} (s : ℕ) → (session s (p .slots)) .doomed ≡ false → Inv h p → follow (wholeHistory h) (changesOf (h .page s)) ≡ follow (wholeHistory h) ((session s (p .slots)) .changes)
+pub own-is : {h : History} {p : Plant} (s : ℕ) → (session s (p .slots)) .doomed ≡ false → Inv h p
+    → follow (wholeHistory h) (changesOf (h .page s)) ≡ follow (wholeHistory h) ((session s (p .slots)) .changes)
 own-is {h} {p} s a i = fun-ext (λ q. i .sessions .live s a .same q)
 
 -- what a session sees is the history followed by its page
-pub seen-is : {h : History} {p : Plant} (s : ℕ) → (session s (p .slots)) .doomed ≡ false → Inv h p → seen p ((session s (p .slots)) .changes) ≡ follow (wholeHistory h) (changesOf (h .page s))
+pub seen-is : {h : History} {p : Plant} (s : ℕ) → (session s (p .slots)) .doomed ≡ false → Inv h p
+    → seen p ((session s (p .slots)) .changes) ≡ follow (wholeHistory h) (changesOf (h .page s))
 seen-is {h} {p} s a i = ap (λ z. follow z ((session s (p .slots)) .changes)) (current-is-history (i .workers)) ∙ sym (own-is s a i)
 
 pub inv-read : {h : History} {p : Plant} (s k : ℤ) (lent : List ℤ) (pick : Pick) (ns : List ℕ) → (sessionAt s p) .doomed ≡ false
     → any (λ q. othersExclusive (natOf s) (q .document) (p .slots)) (p .keys (natOf k)) ≡ false
-    → Inv h p → Inv (note (Read s k) ns (showAll (map (seen p (own s p)) (p .keys (natOf k))) ++ drop (wordsPerField * length (p .keys (natOf k))) lent) h) (afterRead (natOf s) (natOf k) pick p)
+    → Inv h p → Inv (note (Read s k) ns
+    (showAll (map (seen p (own s p)) (p .keys (natOf k))) ++ drop (wordsPerField * length (p .keys (natOf k))) lent) h) (afterRead (natOf s)
+    (natOf k) pick p)
 unfolding note afterRead
 inv-read {h} {p} s′ k′ lent pick ns a o i =
     record {
@@ -142,7 +155,8 @@ inv-read {h} {p} s′ k′ lent pick ns a o i =
       alone = i .alone;
       sessions =
           rw (i .keys)
-          (sessions-cast _ (sessions-read (λ m. hasSlot m (p .slots)) (p .clock) s (p .keys k) _ a words (λ d n u e. none-other s (p .slots) (p .keys k) d n o u e) (i .sessions))
+          (sessions-cast _ (sessions-read (λ m. hasSlot m (p .slots)) (p .clock) s (p .keys k) _ a words
+          (λ d n u e. none-other s (p .slots) (p .keys k) d n o u e) (i .sessions))
           (λ m. session-each (onlyAt s (withShared (p .clock) (p .keys k))) m (p .slots))
           );
       keys = i .keys;
@@ -155,11 +169,14 @@ inv-read {h} {p} s′ k′ lent pick ns a o i =
     k : ℕ
     k = natOf k′
 
-    words : take (wordsPerField * length (p .keys k)) (showAll (map (seen p (own s′ p)) (p .keys k)) ++ drop (wordsPerField * length (p .keys k)) lent) ≡ showAll (map (follow (wholeHistory h) (changesOf (h .page s))) (p .keys k))
+    words : take (wordsPerField * length (p .keys k))
+        (showAll (map (seen p (own s′ p)) (p .keys k)) ++ drop (wordsPerField * length (p .keys k)) lent) ≡ showAll
+        (map (follow (wholeHistory h) (changesOf (h .page s))) (p .keys k))
     words = rw (seen-is s a i) (take-at _ _ _ (length-showAll _ (p .keys k)))
 
 -- ── change ──
-pub inv-change : {h : History} {p : Plant} (s d f k v : ℤ) (ns : List ℕ) (ws : List ℤ) → (sessionAt s p) .doomed ≡ false → leb changeLimit (length (own s p)) ≡ false
+pub inv-change : {h : History} {p : Plant} (s d f k v : ℤ) (ns : List ℕ) (ws : List ℤ) → (sessionAt s p) .doomed ≡ false
+    → leb changeLimit (length (own s p)) ≡ false
     → othersExclusive (natOf s) (natOf d) (p .slots) ≡ false
     → meets (updateOf (placeOf d f) (natOf k) v) (seen p (own s p) (placeOf d f)) ≡ none
     → Inv h p → Inv (note (Change s d f k v) ns ws h) (changed (natOf s) (updateOf (placeOf d f) (natOf k) v) p)
@@ -170,7 +187,8 @@ inv-change {h} {p} s d f k v ns ws a r o m i =
       alone = i .alone;
       sessions =
           sessions-cast _
-          (sessions-change (λ m. hasSlot m (p .slots)) (p .clock) (natOf s) c a (leb-false changeLimit (length (own s p)) r) accepted-there (λ n e. others-not (natOf s) n (natOf d) (p .slots) o e) (i .sessions))
+          (sessions-change (λ m. hasSlot m (p .slots)) (p .clock) (natOf s) c a (leb-false changeLimit (length (own s p)) r) accepted-there
+          (λ n e. others-not (natOf s) n (natOf d) (p .slots) o e) (i .sessions))
           (λ n. session-each (grant (p .clock) (natOf s) c) n (p .slots));
       keys = i .keys;
       early = i .early;
@@ -184,13 +202,21 @@ inv-change {h} {p} s d f k v ns ws a r o m i =
 
 -- ── commit ──
 pub now-commit : (h : History) (x : Committed) → follow (wholeHistory h) (changesOf (x .page)) ≡ follow (h .start) (whole (h .commits ++ (x ∷ [])))
-now-commit h x = rw (whole-append (h .commits) (x ∷ []), append-nil (changesOf (x .page))) (sym (follow-append (h .start) (whole (h .commits)) (changesOf (x .page))))
+now-commit h x =
+    rw (whole-append (h .commits) (x ∷ []), append-nil (changesOf (x .page)))
+    (sym (follow-append (h .start) (whole (h .commits)) (changesOf (x .page))))
 
-pub inv-commit : {h : History} {p : Plant} (s : ℤ) (ns : List ℕ) (ws : List ℤ) → (sessionAt s p) .doomed ≡ false → not (isEmpty (own s p)) && leb bufferLimit (length (p .buffer)) ≡ false → Kept p → Inv h p → Inv (note (Commit s) ns ws h) (committed (natOf s) p)
+pub inv-commit : {h : History} {p : Plant} (s : ℤ) (ns : List ℕ) (ws : List ℤ) → (sessionAt s p) .doomed ≡ false
+    → not (isEmpty (own s p)) && leb bufferLimit (length (p .buffer)) ≡ false → Kept p → Inv h p → Inv (note (Commit s) ns ws h)
+    (committed (natOf s) p)
 unfolding note committed
 inv-commit {h} {p} s′ ns ws a r kp i =
     record {
-      workers = workers-commit x cs (buffer-room cs (p .buffer) r) (not-true _ (and-true (not (isBuffered s (p .buffer))) (not (has s (p .rows))) (number-look (isFresh (p .buffer) (p .rows)) s (p .slots) (kp .fresh) th) .1)) (i .sessions .live s a .silent) (sym (own-is s a i)) (i .workers);
+      workers =
+          workers-commit x cs (buffer-room cs (p .buffer) r)
+          (not-true _ (and-true (not (isBuffered s (p .buffer))) (not (has s (p .rows)))
+          (number-look (isFresh (p .buffer) (p .rows)) s (p .slots)
+          (kp .fresh) th) .1)) (i .sessions .live s a .silent) (sym (own-is s a i)) (i .workers);
       alone = allRight-append (h .start) (h .commits) (x ∷ []) (i .alone) (i .sessions .live s a .right, tt);
       sessions =
           rw (← now-commit h x)
@@ -218,7 +244,9 @@ inv-advance {h} {p} n i =
     record {
       workers = i .workers;
       alone = i .alone;
-      sessions = sessions-cast _ (sessions-lapse (λ m. hasSlot m (p .slots)) (p .clock + n) (i .sessions)) (λ m. session-each (lapse (p .clock + n)) m (p .slots));
+      sessions =
+          sessions-cast _ (sessions-lapse (λ m. hasSlot m (p .slots)) (p .clock + n) (i .sessions))
+          (λ m. session-each (lapse (p .clock + n)) m (p .slots));
       keys = i .keys;
       early = i .early;
     }

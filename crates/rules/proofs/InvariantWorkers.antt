@@ -29,18 +29,28 @@ pub inv-cut : {h : History} {p : Plant} (w : ℕ) → Inv h p → Inv h (cut w p
 unfolding cut
 inv-cut {p = p} w i = record { workers = workers-cut w (i .workers); alone = i .alone; sessions = i .sessions; keys = i .keys; early = i .early }
 
-pub inv-carry : {h : History} {p : Plant} (n : ℕ) → (has n (p .rows) ≡ false → isOldest n (p .buffer) ≡ true) → leb rowLimit (length (p .rows)) && not (has n (p .rows)) ≡ false → Kept p → Inv h p → Inv h (carried n p)
+pub inv-carry : {h : History} {p : Plant} (n : ℕ) → (has n (p .rows) ≡ false → isOldest n (p .buffer) ≡ true)
+    → leb rowLimit (length (p .rows)) && not (has n (p .rows)) ≡ false → Kept p → Inv h p → Inv h (carried n p)
 unfolding carried
-inv-carry {h} {p} n old r k i = byCase (has n (p .rows)) (λ e. rw e i) (λ e. rw (e, pushed-room rowLimit (p .rows) n (row-room n (p .rows) r e)) (go e (old e)))
+inv-carry {h} {p} n old r k i =
+    byCase (has n (p .rows)) (λ e. rw e i) (λ e. rw (e, pushed-room rowLimit (p .rows) n (row-room n (p .rows) r e)) (go e (old e)))
   where
-    go : has n (p .rows) ≡ false → isOldest n (p .buffer) ≡ true → Inv h (withStore (follow (p .store) (batchOf n (p .buffer))) (withRows (p .rows ++ (n ∷ [])) p))
-    go e o = record { workers = workers-carry (p .buffer) n o e (k .buffer) (i .workers); alone = i .alone; sessions = i .sessions; keys = i .keys; early = i .early }
+    go : has n (p .rows) ≡ false → isOldest n (p .buffer) ≡ true
+        → Inv h (withStore (follow (p .store) (batchOf n (p .buffer))) (withRows (p .rows ++ (n ∷ [])) p))
+    go e o = record {
+      workers = workers-carry (p .buffer) n o e (k .buffer) (i .workers);
+      alone = i .alone;
+      sessions = i .sessions;
+      keys = i .keys;
+      early = i .early;
+    }
 
 pub inv-reply : {h : History} (w : ℕ) (q : Plant) → w < workerCount → full (q .hands w) ≡ true → Inv h q
     → Inv h (withHand w (holds (handed (q .hands w)) true) q)
 inv-reply w q lt f i = record { workers = workers-reply w lt f (i .workers); alone = i .alone; sessions = i .sessions; keys = i .keys; early = i .early }
 
-pub inv-apply : {h : History} {p : Plant} (fate : Fate) (w : ℕ) → w < workerCount → full (p .hands w) ≡ true → sameCase fateNumber fate arrives && noRoom w p ≡ false → Kept p → Inv h p
+pub inv-apply : {h : History} {p : Plant} (fate : Fate) (w : ℕ) → w < workerCount → full (p .hands w) ≡ true
+    → sameCase fateNumber fate arrives && noRoom w p ≡ false → Kept p → Inv h p
     → Inv h (applied fate w p)
 unfolding applied
 inv-apply {h} {p} fate w lt f room k i = go fate room
@@ -61,7 +71,8 @@ inv-apply {h} {p} fate w lt f room k i = go fate room
     go lost r = byCase (noRoom w p) (λ e. rw e i) (λ e. rw e (there e))
     go unreached r = i
 
-pub inv-delete : {h : History} {p : Plant} (w : ℤ) (ns : List ℕ) (ws : List ℤ) → natOf w < workerCount → full (p .hands (natOf w)) ≡ true → replied (p .hands (natOf w)) ≡ true → Kept p → Inv h p → Inv (note (Delete w) ns ws h) (deleted (natOf w) p)
+pub inv-delete : {h : History} {p : Plant} (w : ℤ) (ns : List ℕ) (ws : List ℤ) → natOf w < workerCount → full (p .hands (natOf w)) ≡ true
+    → replied (p .hands (natOf w)) ≡ true → Kept p → Inv h p → Inv (note (Delete w) ns ws h) (deleted (natOf w) p)
 unfolding note deleted
 inv-delete {h} {p} w′ ns ws lt f r k i =
     record {

@@ -51,29 +51,37 @@ key-ok : (n : ℕ) (m : Pairs) → goodPairs m ≡ true → twice (take n (place
 key-ok n m g t =
     both (leb (length (take n (placesOf m))) placeLimit && all inRange (take n (placesOf m))) (not (twice (take n (placesOf m))))
     (both (leb (length (take n (placesOf m))) placeLimit) (all inRange (take n (placesOf m)))
-    (le-leb (length (take n (placesOf m))) placeLimit (rw (length-take n (placesOf m)) (omega arith))) (all-take inRange n (placesOf m) (places-ok m g)))
+    (le-leb (length (take n (placesOf m))) placeLimit (rw (length-take n (placesOf m)) (omega arith)))
+    (all-take inRange n (placesOf m) (places-ok m g)))
     (rw t)
 
-kept-accepted : (c : Call) (lent : List ℤ) (pick : Pick) (p : Plant) → NoneMet (conditions c lent p) → Allowed pick p → Kept p → Kept ((accepted c lent pick p) .plant)
+kept-accepted : (c : Call) (lent : List ℤ) (pick : Pick) (p : Plant) → NoneMet (conditions c lent p) → Allowed pick p → Kept p
+    → Kept ((accepted c lent pick p) .plant)
 unfolding accepted conditions abandoned
-kept-accepted (Load d f k v) lent pick p m al i = kept-load (updateOf (placeOf d f) (natOf k) v) (update-ok d f k v (not-false _ (not-met _ _ (m .0)))) (not-met _ _ (m .1 .0)) i
+kept-accepted (Load d f k v) lent pick p m al i =
+    kept-load (updateOf (placeOf d f) (natOf k) v) (update-ok d f k v (not-false _ (not-met _ _ (m .0)))) (not-met _ _ (m .1 .0)) i
 kept-accepted (Map k n ps) lent pick p m al i =
     kept-map (natOf k) (take (natOf n) (placesOf ps))
     (key-ok (natOf n) ps (and-true (below k keyCount) (goodPairs ps) (not-false _ (not-met _ _ (m .0))) .1)
-    (or-false (not (goodCount n) || any (λ q. not (isZero q)) (drop (natOf n) (placesOf ps))) (twice (take (natOf n) (placesOf ps))) (not-met _ badPlaces (m .1 .1 .1 .0)) .1))
+    (or-false (not (goodCount n) || any (λ q. not (isZero q)) (drop (natOf n) (placesOf ps))) (twice (take (natOf n) (placesOf ps)))
+    (not-met _ badPlaces (m .1 .1 .1 .0)) .1))
     (not-met _ _ (m .1 .0)) i
 kept-accepted Begin lent pick p m al i = kept-begin (not-met _ _ (m .0)) (not-met _ _ (m .1 .0)) i
 kept-accepted (Read s k) lent pick p m al i =
-    kept-read (natOf s) (natOf k) pick (below-is k keyCount (not-false _ (not-met _ _ (m .0)))) (not-met _ _ (m .1 .1 .0)) (not-met _ _ (m .1 .1 .1 .0)) (not-met _ _ (m .1 .1 .1 .1 .1 .0)) (al .oneOfSixteen) i
+    kept-read (natOf s) (natOf k) pick (below-is k keyCount (not-false _ (not-met _ _ (m .0)))) (not-met _ _ (m .1 .1 .0))
+    (not-met _ _ (m .1 .1 .1 .0)) (not-met _ _ (m .1 .1 .1 .1 .1 .0)) (al .oneOfSixteen) i
 kept-accepted (Change s d f k v) lent pick p m al i =
-    kept-change (natOf s) (updateOf (placeOf d f) (natOf k) v) (not-met _ _ (m .1 .1 .0)) (update-ok d f k v (not-false _ (not-met _ _ (m .0)))) (not-met _ _ (m .1 .1 .1 .0)) (not-met _ _ (m .1 .1 .1 .1 .0))
+    kept-change (natOf s) (updateOf (placeOf d f) (natOf k) v) (not-met _ _ (m .1 .1 .0)) (update-ok d f k v (not-false _ (not-met _ _ (m .0))))
+    (not-met _ _ (m .1 .1 .1 .0)) (not-met _ _ (m .1 .1 .1 .1 .0))
     (m .1 .1 .1 .1 .1 .1 .0) i
 kept-accepted (Commit s) lent pick p m al i = kept-commit (natOf s) (not-met _ _ (m .1 .0)) (not-met _ _ (m .1 .1 .0)) i
 kept-accepted (Abandon s) lent pick p m al i = kept-end (natOf s) i
 kept-accepted (Advance n) lent pick p m al i = kept-advance (natOf n) (not-met _ _ (m .1 .0)) i
-kept-accepted (Take w) lent pick p m al i = kept-take (natOf w) (below-is w workerCount (not-false _ (not-met _ _ (m .0)))) (not-met _ _ (m .1 .1 .1 .0)) i
+kept-accepted (Take w) lent pick p m al i =
+    kept-take (natOf w) (below-is w workerCount (not-false _ (not-met _ _ (m .0)))) (not-met _ _ (m .1 .1 .1 .0)) i
 kept-accepted (Apply w fate) lent pick p m al i =
-    kept-apply (fateOf fate) (natOf w) (below-is w workerCount (and-true _ _ (not-false _ (not-met _ _ (m .0))) .0)) (not-false _ (or-false _ _ (not-met _ _ (m .1 .0)) .0)) (not-met _ _ (m .1 .1 .1 .0)) i
+    kept-apply (fateOf fate) (natOf w) (below-is w workerCount (and-true _ _ (not-false _ (not-met _ _ (m .0))) .0))
+    (not-false _ (or-false _ _ (not-met _ _ (m .1 .0)) .0)) (not-met _ _ (m .1 .1 .1 .0)) i
 kept-accepted (Delete w) lent pick p m al i =
     kept-delete (natOf w) (below-is w workerCount (not-false _ (not-met _ _ (m .0)))) (replies .0) (replies .1) i
   where

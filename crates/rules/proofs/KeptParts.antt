@@ -10,10 +10,10 @@ use Rattle.rules.specs.Lists.{all, pairwise, isEmpty, has}
 use Rattle.rules.specs.Limits.{documentCount, keyCount, cacheLimit, slotLimit, bufferLimit, rowLimit, workerCount, lastTick, lastSession}
 use Rattle.rules.specs.Values.{Place, inRange, absent, fieldOk, Stock}
 use Rattle.rules.specs.Changes.{run, accepts, setsIt}
-use Rattle.rules.specs.Tables.{isHeld, isExclusive, Slot, session, Cached, Batch, isOldest, pending, changesIn, Hand, empty, holds, Plant}
+use Rattle.rules.specs.Tables.{isHeld, isExclusive, Slot, session, Cached, Batch, numbersOf, isOldest, pending, changesIn, Hand, empty, holds, Plant}
 use Rattle.rules.specs.Reading.{current}
 use Rattle.rules.specs.Effects.{begun}
-use Rattle.rules.specs.Kept.{keyOk, isDefined, goodNumber, sessionOk, isFresh, numbersOf, batchOk, queueOk}
+use Rattle.rules.specs.Kept.{keyOk, isDefined, goodNumber, sessionOk, isFresh, batchOk, queueOk}
 use Rattle.rules.proofs.Tests.{Once}
 
 -- ── keys and cached keys ──
@@ -52,7 +52,8 @@ TailFree rows (b ∷ l) = NoRows rows l
 -- where the oldest has its row, the store shows what it set or unset
 abbrev pub RowShown : Stock → List ℕ → List Batch → Type 0
 RowShown store rows [] = Unit {0}
-RowShown store rows (b ∷ l) = has (b .number) rows ≡ true → (q : Place) → inRange q ≡ true → setsIt (b .changes) q ≡ true → store q ≡ run (b .changes) q absent
+RowShown store rows (b ∷ l) =
+    has (b .number) rows ≡ true → (q : Place) → inRange q ≡ true → setsIt (b .changes) q ≡ true → store q ≡ run (b .changes) q absent
 
 pub record BufferKept (store : Stock) (rows : List ℕ) (next : ℕ) (l : List Batch) : Type 0 where
   pub few : length l ≤ bufferLimit

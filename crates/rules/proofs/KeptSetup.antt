@@ -14,13 +14,13 @@ use Rattle.rules.specs.Limits.{documentCount, fieldCount, slotLimit, las
 use Rattle.rules.specs.Refusals.{Refusal, endsSession}
 use Rattle.rules.specs.Values.{below, natOf, Place, inRange, Stock}
 use Rattle.rules.specs.Changes.{kindOf, Update, follow, goodValue, goodKind, placeOf, updateOf, updateOk}
-use Rattle.rules.specs.Tables.{Slot, hasSlot, freed, Cached, Batch, isBuffered, pending, changesIn, Plant, withSlots}
+use Rattle.rules.specs.Tables.{Slot, hasSlot, freed, Cached, Batch, numbersOf, isBuffered, pending, changesIn, Plant, withSlots}
 use Rattle.rules.specs.Reading.{current}
 use Rattle.rules.specs.Calls.{Pair, Pairs, pairsIn, placesOf, Call}
 use Rattle.rules.specs.Conditions.{goodPlace, goodPairs, goodChange, everBegun}
 use Rattle.rules.specs.Effects.{loaded, mapped, opened, firstDoomed, room, begun}
 use Rattle.rules.specs.Step.{sessionOf, ending, afterRefusal}
-use Rattle.rules.specs.Kept.{keyOk, goodNumber, isFresh, numbersOf, batchOk}
+use Rattle.rules.specs.Kept.{keyOk, goodNumber, isFresh, batchOk}
 use Rattle.rules.proofs.Laws.{byCase, or-one, and-true, both, pushed-room}
 use Rattle.rules.proofs.Tests.{all-head, all-tail, all-imp, all-snoc, all-keep}
 use Rattle.rules.proofs.Accepts.{run-ok}
@@ -42,7 +42,8 @@ place-ok d f e =
 pub update-ok : (d f k v : ℤ) → goodPlace d f && goodChange k v ≡ true → updateOk (updateOf (placeOf d f) (natOf k) v) ≡ true
 update-ok d f k v e =
     let h = and-true (goodPlace d f) (goodChange k v) e in
-    both (inRange (placeOf d f)) (goodValue (kindOf (natOf k)) v) (place-ok d f (h .0)) (and-true (goodKind k) (goodValue (kindOf (natOf k)) v) (h .1) .1)
+    both (inRange (placeOf d f)) (goodValue (kindOf (natOf k)) v) (place-ok d f (h .0))
+    (and-true (goodKind k) (goodValue (kindOf (natOf k)) v) (h .1) .1)
 
 pub places-ok : (m : Pairs) → goodPairs m ≡ true → all inRange (placesOf m) ≡ true
 places-ok m e = go (pairsIn m) e
@@ -51,13 +52,15 @@ places-ok m e = go (pairsIn m) e
     go [] h = refl
     go (x ∷ l) h =
         both (inRange (placeOf (x .document) (x .field))) (all inRange (map (λ y. placeOf (y .document) (y .field)) l))
-        (place-ok (x .document) (x .field) (all-head (λ y. goodPlace (y .document) (y .field)) x l h)) (go l (all-tail (λ y. goodPlace (y .document) (y .field)) x l h))
+        (place-ok (x .document) (x .field) (all-head (λ y. goodPlace (y .document) (y .field)) x l h))
+        (go l (all-tail (λ y. goodPlace (y .document) (y .field)) x l h))
 
 -- ── numbers with a slot ──
 pub number-look : (P : ℕ → Bool) (n : ℕ) (l : List Slot) → all (λ x. P (x .number)) l ≡ true → hasSlot n l ≡ true → P n ≡ true
 number-look P n [] a h = absurd (true≢false (sym h))
 number-look P n (x ∷ l) a h =
-    byCase (eqb n (x .number)) (λ e. rw (eqb-true n (x .number) e) (all-head (λ x. P (x .number)) x l a)) (λ e. number-look P n l (all-tail (λ x. P (x .number)) x l a) (rw e at h))
+    byCase (eqb n (x .number)) (λ e. rw (eqb-true n (x .number) e) (all-head (λ x. P (x .number)) x l a))
+    (λ e. number-look P n l (all-tail (λ x. P (x .number)) x l a) (rw e at h))
 
 -- a slot in use: a session has begun
 pub has-begun : {p : Plant} (s : ℕ) → hasSlot s (p .slots) ≡ true → Kept p → ltb 1 (p .next) ≡ true
@@ -98,7 +101,8 @@ pub buffer-nil : (store : Stock) (rows : List ℕ) (next : ℕ) → BufferKept s
 buffer-nil store rows next = record { few = omega arith; once = tt; ok = refl; tail = tt; pendingOk = refl; shown = tt }
 
 pub buffer-numbers : {p : Plant} → Kept p → all (λ b. goodNumber (p .next) (b .number)) (p .buffer) ≡ true
-buffer-numbers {p} k = all-imp (batchOk (p .next)) (λ b. goodNumber (p .next) (b .number)) (λ b e. batch-number (p .next) b e) (p .buffer) (k .buffer .ok)
+buffer-numbers {p} k =
+    all-imp (batchOk (p .next)) (λ b. goodNumber (p .next) (b .number)) (λ b e. batch-number (p .next) b e) (p .buffer) (k .buffer .ok)
 
 pub kept-load : {p : Plant} (c : Update) → updateOk c ≡ true → everBegun p ≡ false → Kept p → Kept (loaded c p)
 unfolding loaded
@@ -106,10 +110,16 @@ kept-load {p} c u e k =
     record {
       store = λ q r. run-ok (c ∷ []) q (p .store q) (both (updateOk c) true u refl) (k .store q r);
       keys = k .keys;
-      cache = subst (λ (l : List Cached). CacheKept now′ (p .keys) (p .next) l) (sym (early-cache (p .cache) (ltb 1 (p .next)) (k .cache .afterBegin) e)) (cache-nil now′ (p .keys) (p .next));
-      slots = subst (λ (l : List Slot). SlotsKept now′ (p .clock) (p .next) l) (sym (numbers-nil (λ s. s .number) (p .next) (p .slots) (k .slots .numbers) e)) (slots-nil now′ (p .clock) (p .next));
+      cache =
+          subst (λ (l : List Cached). CacheKept now′ (p .keys) (p .next) l) (sym (early-cache (p .cache) (ltb 1 (p .next)) (k .cache .afterBegin) e))
+          (cache-nil now′ (p .keys) (p .next));
+      slots =
+          subst (λ (l : List Slot). SlotsKept now′ (p .clock) (p .next) l)
+          (sym (numbers-nil (λ s. s .number) (p .next) (p .slots) (k .slots .numbers) e)) (slots-nil now′ (p .clock) (p .next));
       fresh = k .fresh;
-      buffer = subst (λ (l : List Batch). BufferKept (follow (p .store) (c ∷ [])) (p .rows) (p .next) l) (sym (numbers-nil (λ b. b .number) (p .next) (p .buffer) (buffer-numbers k) e)) (buffer-nil _ (p .rows) (p .next));
+      buffer =
+          subst (λ (l : List Batch). BufferKept (follow (p .store) (c ∷ [])) (p .rows) (p .next) l)
+          (sym (numbers-nil (λ b. b .number) (p .next) (p .buffer) (buffer-numbers k) e)) (buffer-nil _ (p .rows) (p .next));
       rows = k .rows;
       hands = k .hands;
       queue = k .queue;
@@ -127,7 +137,9 @@ kept-map {p} key qs o e k =
     record {
       store = k .store;
       keys = λ j lt. byCase (eqb j key) (λ t. rw t o) (λ t. rw t (k .keys j lt));
-      cache = subst (λ (l : List Cached). CacheKept (current p) (override (p .keys) key qs) (p .next) l) (sym (early-cache (p .cache) (ltb 1 (p .next)) (k .cache .afterBegin) e)) (cache-nil _ _ (p .next));
+      cache =
+          subst (λ (l : List Cached). CacheKept (current p) (override (p .keys) key qs) (p .next) l)
+          (sym (early-cache (p .cache) (ltb 1 (p .next)) (k .cache .afterBegin) e)) (cache-nil _ _ (p .next));
       slots = k .slots;
       fresh = k .fresh;
       buffer = k .buffer;
@@ -140,13 +152,20 @@ kept-map {p} key qs o e k =
     }
 
 -- ── begin ──
-pub kept-begin : {p : Plant} → ltb lastSession (p .next) ≡ false → leb slotLimit (length (p .slots)) && not (any (λ s. (s .session) .doomed) (p .slots)) ≡ false → Kept p → Kept (begun p)
+pub kept-begin : {p : Plant} → ltb lastSession (p .next) ≡ false
+    → leb slotLimit (length (p .slots)) && not (any (λ s. (s .session) .doomed) (p .slots)) ≡ false → Kept p → Kept (begun p)
 unfolding begun
 kept-begin {p} e r k =
     record {
       store = k .store;
       keys = k .keys;
-      cache = record { few = k .cache .few; once = k .cache .once; defined = k .cache .defined; fields = k .cache .fields; afterBegin = rw (lt-ltb 1 (suc (p .next)) (omega (arith, k .begun))) (or-one (isEmpty (p .cache))) };
+      cache = record {
+        few = k .cache .few;
+        once = k .cache .once;
+        defined = k .cache .defined;
+        fields = k .cache .fields;
+        afterBegin = rw (lt-ltb 1 (suc (p .next)) (omega (arith, k .begun))) (or-one (isEmpty (p .cache)));
+      };
       slots = rw grown (slots-open (k .begun) (room-fits (p .slots) (k .slots .few) r) (slots-room (k .slots)));
       fresh = rw grown (all-snoc (λ x. isFresh (p .buffer) (p .rows) (x .number)) (room (p .slots)) (opened (p .next) (p .clock)) with-room
           (both (not (isBuffered (p .next) (p .buffer))) (not (has (p .next) (p .rows)))
@@ -155,12 +174,20 @@ kept-begin {p} e r k =
       buffer = record {
         few = k .buffer .few;
         once = k .buffer .once;
-        ok = all-imp (batchOk (p .next)) (batchOk (suc (p .next))) (λ b z. batch-later (p .next) (suc (p .next)) b (omega arith) z) (p .buffer) (k .buffer .ok);
+        ok =
+            all-imp (batchOk (p .next)) (batchOk (suc (p .next))) (λ b z. batch-later (p .next) (suc (p .next)) b (omega arith) z) (p .buffer)
+            (k .buffer .ok);
         tail = k .buffer .tail;
         pendingOk = k .buffer .pendingOk;
         shown = k .buffer .shown;
       };
-      rows = record { few = k .rows .few; once = k .rows .once; numbers = all-imp (goodNumber (p .next)) (goodNumber (suc (p .next))) (λ n z. number-later (p .next) (suc (p .next)) n (omega arith) z) (p .rows) (k .rows .numbers) };
+      rows = record {
+        few = k .rows .few;
+        once = k .rows .once;
+        numbers =
+            all-imp (goodNumber (p .next)) (goodNumber (suc (p .next))) (λ n z. number-later (p .next) (suc (p .next)) n (omega arith) z) (p .rows)
+            (k .rows .numbers);
+      };
       hands = k .hands;
       queue = k .queue;
       clock = k .clock;
@@ -174,5 +201,6 @@ kept-begin {p} e r k =
     with-room : all (λ x. isFresh (p .buffer) (p .rows) (x .number)) (room (p .slots)) ≡ true
     with-room =
         byCase (leb slotLimit (length (p .slots)))
-        (λ t. rw t (all-keep (λ x. isFresh (p .buffer) (p .rows) (x .number)) (λ x. not (eqb (firstDoomed (p .slots)) (x .number))) (p .slots) (k .fresh)))
+        (λ t. rw t (all-keep (λ x. isFresh (p .buffer) (p .rows) (x .number)) (λ x. not (eqb (firstDoomed (p .slots)) (x .number))) (p .slots)
+        (k .fresh)))
         (λ t. rw t (k .fresh))

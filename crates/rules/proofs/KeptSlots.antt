@@ -34,11 +34,14 @@ pub record LiveParts (now : Stock) (clock : ℕ) (s : Session) : Type 0 where
 pub live-parts : (now : Stock) (clock : ℕ) (s : Session) → s .doomed ≡ false → sessionOk now clock s ≡ true → LiveParts now clock s
 live-parts now clock s d e =
     let l : liveOk now clock s ≡ true = rw d at e in
-    let b = and-true (leb (s .begun) clock && ltb clock (s .begun + sessionTicks) && all (λ d. leaseOk clock (s .lease d)) documents) (changesOk now s) l in
+    let b = and-true (leb (s .begun) clock && ltb clock (s .begun + sessionTicks) && all (λ d. leaseOk clock (s .lease d)) documents)
+    (changesOk now s) l in
     let c = and-true (leb (s .begun) clock && ltb clock (s .begun + sessionTicks)) (all (λ d. leaseOk clock (s .lease d)) documents) (b .0) in
     let a = and-true (leb (s .begun) clock) (ltb clock (s .begun + sessionTicks)) (c .0) in
-    let x = and-true (leb (length (s .changes)) changeLimit && all updateOk (s .changes) && all (λ c. isExclusive (s .lease (c .at .document))) (s .changes)) (accepts now (s .changes)) (b .1) in
-    let y = and-true (leb (length (s .changes)) changeLimit && all updateOk (s .changes)) (all (λ c. isExclusive (s .lease (c .at .document))) (s .changes)) (x .0) in
+    let x = and-true (leb (length (s .changes)) changeLimit && all updateOk (s .changes) && all (λ c. isExclusive (s .lease (c .at .document)))
+    (s .changes)) (accepts now (s .changes)) (b .1) in
+    let y = and-true (leb (length (s .changes)) changeLimit && all updateOk (s .changes))
+    (all (λ c. isExclusive (s .lease (c .at .document))) (s .changes)) (x .0) in
     let z = and-true (leb (length (s .changes)) changeLimit) (all updateOk (s .changes)) (y .0) in
     record {
       begun = leb-true (s .begun) clock (a .0);
@@ -56,7 +59,8 @@ live-ok now clock s d l =
     (both (leb (s .begun) clock && ltb clock (s .begun + sessionTicks) && all (λ d. leaseOk clock (s .lease d)) documents) (changesOk now s)
     (both (leb (s .begun) clock && ltb clock (s .begun + sessionTicks)) (all (λ d. leaseOk clock (s .lease d)) documents)
     (both (leb (s .begun) clock) (ltb clock (s .begun + sessionTicks)) (leb-le (l .begun)) (ltb-lt (l .young))) (l .leases))
-    (both (leb (length (s .changes)) changeLimit && all updateOk (s .changes) && all (λ c. isExclusive (s .lease (c .at .document))) (s .changes)) (accepts now (s .changes))
+    (both (leb (length (s .changes)) changeLimit && all updateOk (s .changes) && all (λ c. isExclusive (s .lease (c .at .document))) (s .changes))
+    (accepts now (s .changes))
     (both (leb (length (s .changes)) changeLimit && all updateOk (s .changes)) (all (λ c. isExclusive (s .lease (c .at .document))) (s .changes))
     (both (leb (length (s .changes)) changeLimit) (all updateOk (s .changes)) (leb-le (l .few)) (l .formed)) (l .mine))
     (l .accepted)))
@@ -87,9 +91,11 @@ order-tail x l o = and-true (all (λ b. ltb (x .number) (b .number)) l) (pairwis
 pub look-all : (P : Session → Bool) (n : ℕ) (l : List Slot) → all (λ x. P (x .session)) l ≡ true → hasSlot n l ≡ true → P (session n l) ≡ true
 look-all P n [] a h = absurd (true≢false (sym h))
 look-all P n (x ∷ l) a h =
-    byCase (eqb n (x .number)) (λ e. rw e (all-head (λ x. P (x .session)) x l a)) (λ e. rw e (look-all P n l (all-tail (λ x. P (x .session)) x l a) (rw e at h)))
+    byCase (eqb n (x .number)) (λ e. rw e (all-head (λ x. P (x .session)) x l a))
+    (λ e. rw e (look-all P n l (all-tail (λ x. P (x .session)) x l a) (rw e at h)))
 
-pub all-each : (P : Session → Bool) (f : ℕ → Session → Session) (l : List Slot) → Ordered l → ((n : ℕ) → hasSlot n l ≡ true → P (f n (session n l)) ≡ true) → all (λ x. P (x .session)) (each f l) ≡ true
+pub all-each : (P : Session → Bool) (f : ℕ → Session → Session) (l : List Slot) → Ordered l
+    → ((n : ℕ) → hasSlot n l ≡ true → P (f n (session n l)) ≡ true) → all (λ x. P (x .session)) (each f l) ≡ true
 all-each P f [] o h = refl
 all-each P f (x ∷ l) o h =
     both (P (f (x .number) (x .session))) (all (λ x. P (x .session)) (each f l))
@@ -100,14 +106,18 @@ all-each P f (x ∷ l) o h =
     in-tail n t e = rw e at (h n (rw e t))
 
 -- tests of the numbers alone
-pub numbers-each : (P : ℕ → Bool) (f : ℕ → Session → Session) (l : List Slot) → all (λ x. P (x .number)) l ≡ true → all (λ x. P (x .number)) (each f l) ≡ true
+pub numbers-each : (P : ℕ → Bool) (f : ℕ → Session → Session) (l : List Slot) → all (λ x. P (x .number)) l ≡ true
+    → all (λ x. P (x .number)) (each f l) ≡ true
 numbers-each P f [] a = refl
-numbers-each P f (x ∷ l) a = both (P (x .number)) (all (λ x. P (x .number)) (each f l)) (all-head (λ x. P (x .number)) x l a) (numbers-each P f l (all-tail (λ x. P (x .number)) x l a))
+numbers-each P f (x ∷ l) a =
+    both (P (x .number)) (all (λ x. P (x .number)) (each f l)) (all-head (λ x. P (x .number)) x l a)
+    (numbers-each P f l (all-tail (λ x. P (x .number)) x l a))
 
 pub order-each : (f : ℕ → Session → Session) (l : List Slot) → Ordered l → Ordered (each f l)
 order-each f [] o = refl
 order-each f (x ∷ l) o =
-    both (all (λ b. ltb (x .number) (b .number)) (each f l)) (pairwise (λ a b. ltb (a .number) (b .number)) (each f l)) (numbers-each (ltb (x .number)) f l (order-head x l o)) (order-each f l (order-tail x l o))
+    both (all (λ b. ltb (x .number) (b .number)) (each f l)) (pairwise (λ a b. ltb (a .number) (b .number)) (each f l))
+    (numbers-each (ltb (x .number)) f l (order-head x l o)) (order-each f l (order-tail x l o))
 
 pub length-each : (f : ℕ → Session → Session) (l : List Slot) → length (each f l) ≡ length l
 length-each f [] = refl
@@ -161,21 +171,25 @@ pub number-less : (next n : ℕ) → goodNumber next n ≡ true → n < next
 number-less next n e = ltb-true n next (and-true (leb 1 n) (ltb n next) e .1)
 
 pub number-later : (next next′ n : ℕ) → next ≤ next′ → goodNumber next n ≡ true → goodNumber next′ n ≡ true
-number-later next next′ n h e = both (leb 1 n) (ltb n next′) (and-true (leb 1 n) (ltb n next) e .0) (lt-ltb n next′ (omega (arith, number-less next n e)))
+number-later next next′ n h e =
+    both (leb 1 n) (ltb n next′) (and-true (leb 1 n) (ltb n next) e .0) (lt-ltb n next′ (omega (arith, number-less next n e)))
 
 freed-one : (l : List Slot) → any (λ s. (s .session) .doomed) l ≡ true → length (freed (firstDoomed l) l) < length l
 freed-one [] e = absurd (true≢false (sym e))
 freed-one (x ∷ l) e =
     byCase ((x .session) .doomed)
-    (λ t. subst (λ n. length (freed n (x ∷ l)) < suc (length l)) (ap (λ b. cond b (x .number) (firstDoomed l)) (sym t)) (rw (self (x .number)) (omega (arith, length-keep (λ s. not (eqb (x .number) (s .number))) l))))
+    (λ t. subst (λ n. length (freed n (x ∷ l)) < suc (length l)) (ap (λ b. cond b (x .number) (firstDoomed l)) (sym t))
+    (rw (self (x .number)) (omega (arith, length-keep (λ s. not (eqb (x .number) (s .number))) l))))
     (λ t. subst (λ n. length (freed n (x ∷ l)) < suc (length l)) (ap (λ b. cond b (x .number) (firstDoomed l)) (sym t))
     (more (eqb (firstDoomed l) (x .number)) (freed-one l (ap (λ b. cond b true (any (λ s. (s .session) .doomed) l)) (sym t) ∙ e))))
   where
-    more : (b : Bool) → length (freed (firstDoomed l) l) < length l → length (cond (not b) (x ∷ freed (firstDoomed l) l) (freed (firstDoomed l) l)) < suc (length l)
+    more : (b : Bool) → length (freed (firstDoomed l) l) < length l
+        → length (cond (not b) (x ∷ freed (firstDoomed l) l) (freed (firstDoomed l) l)) < suc (length l)
     more true h = omega arith
     more false h = omega arith
 
-pub room-fits : (l : List Slot) → length l ≤ slotLimit → leb slotLimit (length l) && not (any (λ s. (s .session) .doomed) l) ≡ false → length (room l) < slotLimit
+pub room-fits : (l : List Slot) → length l ≤ slotLimit → leb slotLimit (length l) && not (any (λ s. (s .session) .doomed) l) ≡ false
+    → length (room l) < slotLimit
 room-fits l h e =
     byCase (leb slotLimit (length l))
     (λ t. rw t (omega (arith, freed-one l (not-false _ (rw t at e)))))
@@ -188,22 +202,28 @@ pub no-next : (next : ℕ) (l : List Slot) → all (λ x. goodNumber next (x .nu
 no-next next [] a = refl
 no-next next (x ∷ l) a =
     byCase (eqb next (x .number))
-    (λ e. absurd (less next (x .number) (eqb-true next (x .number) e) (number-less next (x .number) (all-head (λ x. goodNumber next (x .number)) x l a))))
+    (λ e. absurd (less next (x .number) (eqb-true next (x .number) e)
+    (number-less next (x .number) (all-head (λ x. goodNumber next (x .number)) x l a))))
     (λ e. rw e (no-next next l (all-tail (λ x. goodNumber next (x .number)) x l a)))
   where
     less : (u v : ℕ) → u ≡ v → v < u → ⊥
     less u v a b = omega arith
 
-pub slots-open : {now : Stock} {clock next : ℕ} {l : List Slot} → 1 ≤ next → length l < slotLimit → SlotsKept now clock next l → SlotsKept now clock (suc next) (l ++ (opened next clock ∷ []))
+pub slots-open : {now : Stock} {clock next : ℕ} {l : List Slot} → 1 ≤ next → length l < slotLimit → SlotsKept now clock next l
+    → SlotsKept now clock (suc next) (l ++ (opened next clock ∷ []))
 slots-open {now} {clock} {next} {l} b h k =
     record {
       few = rw (length-append l (opened next clock ∷ [])) (omega arith);
       order = pairwise-snoc (λ a b. ltb (a .number) (b .number)) l (opened next clock) (k .order)
-          (all-imp (λ x. goodNumber next (x .number)) (λ x. ltb (x .number) next) (λ x e. and-true (leb 1 (x .number)) (ltb (x .number) next) e .1) l (k .numbers));
+          (all-imp (λ x. goodNumber next (x .number)) (λ x. ltb (x .number) next) (λ x e. and-true (leb 1 (x .number)) (ltb (x .number) next) e .1) l
+          (k .numbers));
       numbers = all-snoc (λ x. goodNumber (suc next) (x .number)) l (opened next clock)
-          (all-imp (λ x. goodNumber next (x .number)) (λ x. goodNumber (suc next) (x .number)) (λ x e. number-later next (suc next) (x .number) (omega arith) e) l (k .numbers))
+          (all-imp (λ x. goodNumber next (x .number)) (λ x. goodNumber (suc next) (x .number))
+          (λ x e. number-later next (suc next) (x .number) (omega arith) e) l (k .numbers))
           (both (leb 1 next) (ltb next (suc next)) (leb-le b) (lt-ltb next (suc next) (omega arith)));
-      ok = all-snoc (λ x. sessionOk now clock (x .session)) l (opened next clock) (k .ok) (live-ok now clock ((opened next clock) .session) refl new-live);
+      ok =
+          all-snoc (λ x. sessionOk now clock (x .session)) l (opened next clock) (k .ok)
+          (live-ok now clock ((opened next clock) .session) refl new-live);
       apart = apart-cast _ (λ n. session n (l ++ (opened next clock ∷ []))) (λ m. session-snoc m l (opened next clock))
           (λ n m d lt ne x. byCase (hasSlot m l)
           (λ e. rw e (k .apart n m d lt ne (byCase (hasSlot n l) (λ t. rw t at x) (λ t. absurd (true≢false (sym (rw t at x) ∙ none-ex n d))))))
@@ -212,7 +232,17 @@ slots-open {now} {clock} {next} {l} b h k =
   where
     new-live : LiveParts now clock ((opened next clock) .session)
     new-live =
-        record { begun = omega arith; young = omega arith; leases = all-true (λ d. true) (λ d. refl) documents; few = omega arith; formed = refl; mine = refl; accepted = refl }
+        record {
+          begun =
+              omega arith;
+          young =
+              omega arith;
+          leases = all-true (λ d. true) (λ d. refl) documents;
+          few = omega arith;
+          formed = refl;
+          mine = refl;
+          accepted = refl;
+        }
 
     none-held : (m d : ℕ) → isHeld ((session m (opened next clock ∷ [])) .lease d) ≡ false
     none-held m d = byCase (eqb m next) (λ e. rw e) (λ e. rw e)

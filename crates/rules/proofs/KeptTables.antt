@@ -11,9 +11,9 @@ use Rattle.rules.specs.Lists.{keep, all, pushed, isEmpty, dropAt, has}
 use Rattle.rules.specs.Limits.{keyCount, cacheLimit, changeLimit, bufferLimit}
 use Rattle.rules.specs.Values.{Place, absent, number, Stock}
 use Rattle.rules.specs.Changes.{Update, follow, accepts, updateOk}
-use Rattle.rules.specs.Tables.{Cached, isCached, Batch, isOldest, batchOf, unbuffer, pending, changesIn}
+use Rattle.rules.specs.Tables.{Cached, isCached, Batch, numbersOf, isOldest, batchOf, unbuffer, pending, changesIn}
 use Rattle.rules.specs.Effects.{evicted, upToDate}
-use Rattle.rules.specs.Kept.{isDefined, goodNumber, numbersOf, batchOk, kept}
+use Rattle.rules.specs.Kept.{isDefined, goodNumber, batchOk, kept}
 use Rattle.rules.proofs.Laws.{byCase, or-one, and-true, both, follow-append, pushed-room}
 use Rattle.rules.proofs.Tests.{Once, all-head, all-tail, all-snoc, all-keep, all-dropAt, length-dropAt, once-map-keep, has-map-dropAt, once-map-dropAt, once-map-snoc}
 use Rattle.rules.proofs.Accepts.{accepts-split, accepts-join, run-set}
@@ -40,23 +40,27 @@ numbers-nil g next (x ∷ l) a e = absurd (none-less (g x) next (number-least ne
 pub not-next : (next : ℕ) (l : List ℕ) → all (goodNumber next) l ≡ true → has next l ≡ false
 not-next next [] a = refl
 not-next next (x ∷ l) a =
-    byCase (eqb next x) (λ e. absurd (less next x (eqb-true next x e) (number-less next x (all-head (goodNumber next) x l a)))) (λ e. rw e (not-next next l (all-tail (goodNumber next) x l a)))
+    byCase (eqb next x) (λ e. absurd (less next x (eqb-true next x e) (number-less next x (all-head (goodNumber next) x l a))))
+    (λ e. rw e (not-next next l (all-tail (goodNumber next) x l a)))
   where
     less : (u v : ℕ) → u ≡ v → v < u → ⊥
     less u v a b = omega arith
 
 pub batch-number : (next : ℕ) (b : Batch) → batchOk next b ≡ true → goodNumber next (b .number) ≡ true
 batch-number next b e =
-    let x = and-true (goodNumber next (b .number) && not (isEmpty (b .changes)) && leb (length (b .changes)) changeLimit) (all updateOk (b .changes)) e in
+    let x = and-true (goodNumber next (b .number) && not (isEmpty (b .changes)) && leb (length (b .changes)) changeLimit)
+    (all updateOk (b .changes)) e in
     let y = and-true (goodNumber next (b .number) && not (isEmpty (b .changes))) (leb (length (b .changes)) changeLimit) (x .0) in
     and-true (goodNumber next (b .number)) (not (isEmpty (b .changes))) (y .0) .0
 
 pub batch-formed : (next : ℕ) (b : Batch) → batchOk next b ≡ true → all updateOk (b .changes) ≡ true
-batch-formed next b e = and-true (goodNumber next (b .number) && not (isEmpty (b .changes)) && leb (length (b .changes)) changeLimit) (all updateOk (b .changes)) e .1
+batch-formed next b e =
+    and-true (goodNumber next (b .number) && not (isEmpty (b .changes)) && leb (length (b .changes)) changeLimit) (all updateOk (b .changes)) e .1
 
 pub batch-later : (next next′ : ℕ) (b : Batch) → next ≤ next′ → batchOk next b ≡ true → batchOk next′ b ≡ true
 batch-later next next′ b h e =
-    let x = and-true (goodNumber next (b .number) && not (isEmpty (b .changes)) && leb (length (b .changes)) changeLimit) (all updateOk (b .changes)) e in
+    let x = and-true (goodNumber next (b .number) && not (isEmpty (b .changes)) && leb (length (b .changes)) changeLimit)
+    (all updateOk (b .changes)) e in
     let y = and-true (goodNumber next (b .number) && not (isEmpty (b .changes))) (leb (length (b .changes)) changeLimit) (x .0) in
     let z = and-true (goodNumber next (b .number)) (not (isEmpty (b .changes))) (y .0) in
     both (goodNumber next′ (b .number) && not (isEmpty (b .changes)) && leb (length (b .changes)) changeLimit) (all updateOk (b .changes))
@@ -67,7 +71,8 @@ batch-later next next′ b h e =
 pub nums-good : (next : ℕ) (l : List Batch) → all (batchOk next) l ≡ true → all (goodNumber next) (numbersOf l) ≡ true
 nums-good next [] a = refl
 nums-good next (b ∷ l) a =
-    both (goodNumber next (b .number)) (all (goodNumber next) (numbersOf l)) (batch-number next b (all-head (batchOk next) b l a)) (nums-good next l (all-tail (batchOk next) b l a))
+    both (goodNumber next (b .number)) (all (goodNumber next) (numbersOf l)) (batch-number next b (all-head (batchOk next) b l a))
+    (nums-good next l (all-tail (batchOk next) b l a))
 
 -- ── apply ──
 -- what a carried session leaves
@@ -77,7 +82,8 @@ pub record Carry (store : Stock) (rows : List ℕ) (next : ℕ) (buffer : List B
   pub formed : all updateOk (batchOf n buffer) ≡ true
   pub number : goodNumber next n ≡ true
 
-pub buffer-carry : {store : Stock} {rows : List ℕ} {next : ℕ} (buffer : List Batch) (n : ℕ) → isOldest n buffer ≡ true → has n rows ≡ false → BufferKept store rows next buffer → Carry store rows next buffer n
+pub buffer-carry : {store : Stock} {rows : List ℕ} {next : ℕ} (buffer : List Batch) (n : ℕ) → isOldest n buffer ≡ true → has n rows ≡ false
+    → BufferKept store rows next buffer → Carry store rows next buffer n
 buffer-carry [] n e h k = absurd (true≢false (sym e))
 buffer-carry {store} {rows} {next} (b ∷ l) n e h k =
     record {
@@ -118,7 +124,8 @@ buffer-carry {store} {rows} {next} (b ∷ l) n e h k =
         ∙ pending-free rows′ l (noRows-snoc n rows l others (k .tail))
 
 -- ── delete, sweep ──
-pub buffer-delete : {store : Stock} {rows : List ℕ} {next : ℕ} {buffer : List Batch} (n : ℕ) → has n rows ≡ true → BufferKept store rows next buffer → BufferKept store rows next (unbuffer n buffer)
+pub buffer-delete : {store : Stock} {rows : List ℕ} {next : ℕ} {buffer : List Batch} (n : ℕ) → has n rows ≡ true → BufferKept store rows next buffer
+    → BufferKept store rows next (unbuffer n buffer)
 buffer-delete {store} {rows} {next} {buffer} n h k =
     record {
       few = omega (arith, length-unbuffer n buffer, k .few);
@@ -132,8 +139,10 @@ buffer-delete {store} {rows} {next} {buffer} n h k =
     unapplied : (l : List Batch) → NoRows rows l → RowShown store rows (unbuffer n l)
     unapplied [] t = tt
     unapplied (b ∷ l) t =
-        byCase (eqb n (b .number)) (λ e. subst (λ z. RowShown store rows (cond (not z) (b ∷ unbuffer n l) (unbuffer n l))) (sym e) (unapplied l (t .1)))
-        (λ e. subst (λ z. RowShown store rows (cond (not z) (b ∷ unbuffer n l) (unbuffer n l))) (sym e) (λ r q i s. absurd (true≢false (sym r ∙ t .0))))
+        byCase (eqb n (b .number)) (λ e. subst (λ z. RowShown store rows (cond (not z) (b ∷ unbuffer n l) (unbuffer n l))) (sym e)
+        (unapplied l (t .1)))
+        (λ e. subst (λ z. RowShown store rows (cond (not z) (b ∷ unbuffer n l) (unbuffer n l))) (sym e)
+        (λ r q i s. absurd (true≢false (sym r ∙ t .0))))
 
     shows : (l : List Batch) → TailFree rows l → RowShown store rows l → RowShown store rows (unbuffer n l)
     shows [] t s = tt
@@ -144,7 +153,8 @@ buffer-delete {store} {rows} {next} {buffer} n h k =
 pub has-keep-true : (f : ℕ → Bool) (m : ℕ) (l : List ℕ) → has m (keep f l) ≡ true → has m l ≡ true
 has-keep-true f m l e = byCase (has m l) (λ t. t) (λ t. absurd (true≢false (sym e ∙ has-keep-false f m l t)))
 
-pub buffer-sweep : {store : Stock} {rows : List ℕ} {next : ℕ} {buffer : List Batch} (f : ℕ → Bool) → ((n : ℕ) → has n (numbersOf buffer) ≡ true → has n (keep f rows) ≡ has n rows)
+pub buffer-sweep : {store : Stock} {rows : List ℕ} {next : ℕ} {buffer : List Batch} (f : ℕ → Bool)
+    → ((n : ℕ) → has n (numbersOf buffer) ≡ true → has n (keep f rows) ≡ has n rows)
     → BufferKept store rows next buffer → BufferKept store (keep f rows) next buffer
 buffer-sweep {store} {rows} {next} {buffer} f h k =
     record {
@@ -165,20 +175,24 @@ pub flat-append : (a b : List Batch) → changesIn (a ++ b) ≡ changesIn a ++ c
 flat-append [] b = refl
 flat-append (x ∷ a) b = ap (λ z. x .changes ++ z) (flat-append a b) ∙ sym (append-assoc (x .changes) (changesIn a) (changesIn b))
 
-pub flat-commit : (rows : List ℕ) (buffer : List Batch) (b : Batch) → has (b .number) rows ≡ false → changesIn (pending rows (buffer ++ (b ∷ []))) ≡ changesIn (pending rows buffer) ++ b .changes
+pub flat-commit : (rows : List ℕ) (buffer : List Batch) (b : Batch) → has (b .number) rows ≡ false
+    → changesIn (pending rows (buffer ++ (b ∷ []))) ≡ changesIn (pending rows buffer) ++ b .changes
 flat-commit rows buffer b h =
     ap changesIn (pending-append rows buffer (b ∷ []) ∙ ap (λ z. pending rows buffer ++ cond (not z) (b ∷ []) []) h)
     ∙ flat-append (pending rows buffer) (b ∷ []) ∙ ap (λ z. changesIn (pending rows buffer) ++ z) (append-nil (b .changes))
 
-pub buffer-commit : {store : Stock} {rows : List ℕ} {next : ℕ} {buffer : List Batch} (b : Batch) → length buffer < bufferLimit → has (b .number) (numbersOf buffer) ≡ false → has (b .number) rows ≡ false
-    → batchOk next b ≡ true → accepts (follow store (changesIn (pending rows buffer))) (b .changes) ≡ true → BufferKept store rows next buffer → BufferKept store rows next (buffer ++ (b ∷ []))
+pub buffer-commit : {store : Stock} {rows : List ℕ} {next : ℕ} {buffer : List Batch} (b : Batch) → length buffer < bufferLimit
+    → has (b .number) (numbersOf buffer) ≡ false → has (b .number) rows ≡ false
+    → batchOk next b ≡ true → accepts (follow store (changesIn (pending rows buffer))) (b .changes) ≡ true → BufferKept store rows next buffer
+    → BufferKept store rows next (buffer ++ (b ∷ []))
 buffer-commit {store} {rows} {next} {buffer} b lt nb nr ok a k =
     record {
       few = rw (length-append buffer (b ∷ [])) (omega arith);
       once = rw (nums-append buffer (b ∷ [])) (once-snoc (b .number) (numbersOf buffer) nb (k .once));
       ok = all-snoc (batchOk next) buffer b (k .ok) ok;
       tail = tail-last rows buffer b nr (k .tail);
-      pendingOk = ap (accepts store) (flat-commit rows buffer b nr) ∙ accepts-join store (changesIn (pending rows buffer)) (b .changes) (k .pendingOk) a;
+      pendingOk =
+          ap (accepts store) (flat-commit rows buffer b nr) ∙ accepts-join store (changesIn (pending rows buffer)) (b .changes) (k .pendingOk) a;
       shown = shows buffer (k .shown);
     }
   where
@@ -203,7 +217,8 @@ not-cached : (k : ℕ) (l : List Cached) → isCached k l ≡ false → has k (m
 not-cached k [] e = refl
 not-cached k (c ∷ l) e = byCase (eqb k (c .key)) (λ t. absurd (true≢false (rw t at e))) (λ t. rw t (not-cached k l (rw t at e)))
 
-cache-evicted : {now : Stock} {keys : ℕ → List Place} {next : ℕ} {l : List Cached} (n : ℕ) → n < cacheLimit → ltb 1 next ≡ true → CacheKept now keys next l
+cache-evicted : {now : Stock} {keys : ℕ → List Place} {next : ℕ} {l : List Cached} (n : ℕ) → n < cacheLimit → ltb 1 next ≡ true
+    → CacheKept now keys next l
     → (length (evicted n l) < cacheLimit) × CacheKept now keys next (evicted n l)
 cache-evicted {now} {keys} {next} {l} n h b k =
     byCase (leb cacheLimit (length l))
@@ -225,7 +240,8 @@ evicted-not : (k n : ℕ) (l : List Cached) → has k (map (λ c. c .key) l) ≡
 evicted-not k n l e = byCase (leb cacheLimit (length l)) (λ t. rw t (has-map-dropAt k (λ c. c .key) n l e)) (λ t. rw t e)
 
 -- a key is cached, one may give way
-pub cache-read : {now : Stock} {keys : ℕ → List Place} {next : ℕ} {l : List Cached} (k n : ℕ) → n < cacheLimit → ltb 1 next ≡ true → isCached k l ≡ false → k < keyCount → isEmpty (keys k) ≡ false
+pub cache-read : {now : Stock} {keys : ℕ → List Place} {next : ℕ} {l : List Cached} (k n : ℕ) → n < cacheLimit → ltb 1 next ≡ true
+    → isCached k l ≡ false → k < keyCount → isEmpty (keys k) ≡ false
     → CacheKept now keys next l → CacheKept now keys next (pushed cacheLimit (evicted n l) (record { key = k; fields = map now (keys k) }))
 cache-read {now} {keys} {next} {l} k n h b c lt d i =
     let e = cache-evicted n h b i in
@@ -234,13 +250,15 @@ cache-read {now} {keys} {next} {l} k n h b c lt d i =
     record {
       few = rw (length-append (evicted n l) (x ∷ [])) (omega (arith, e .0));
       once = once-map-snoc (λ c. c .key) x (evicted n l) (evicted-not k n l (not-cached k l c)) (e .1 .once);
-      defined = all-snoc (isDefined keys) (evicted n l) x (e .1 .defined) (both (ltb k keyCount) (not (isEmpty (keys k))) (lt-ltb k keyCount lt) (rw d));
+      defined =
+          all-snoc (isDefined keys) (evicted n l) x (e .1 .defined) (both (ltb k keyCount) (not (isEmpty (keys k))) (lt-ltb k keyCount lt) (rw d));
       fields = cache-snoc now keys (evicted n l) x (e .1 .fields) refl;
       afterBegin = rw b (or-one (isEmpty (evicted n l ++ (x ∷ []))));
     }
 
 -- cached keys are brought up to date
-pub cache-update : {now : Stock} {keys : ℕ → List Place} {next : ℕ} {l : List Cached} (now′ : Stock) → CacheKept now keys next l → CacheKept now′ keys next (map (upToDate keys now′) l)
+pub cache-update : {now : Stock} {keys : ℕ → List Place} {next : ℕ} {l : List Cached} (now′ : Stock) → CacheKept now keys next l
+    → CacheKept now′ keys next (map (upToDate keys now′) l)
 cache-update {now} {keys} {next} {l} now′ k =
     record {
       few = rw (same-length l) (k .few);
@@ -260,10 +278,13 @@ cache-update {now} {keys} {next} {l} now′ k =
 
     still : (m : List Cached) → all (isDefined keys) m ≡ true → all (isDefined keys) (map (upToDate keys now′) m) ≡ true
     still [] e = refl
-    still (c ∷ m) e = both (isDefined keys c) (all (isDefined keys) (map (upToDate keys now′) m)) (all-head (isDefined keys) c m e) (still m (all-tail (isDefined keys) c m e))
+    still (c ∷ m) e =
+        both (isDefined keys c) (all (isDefined keys) (map (upToDate keys now′) m)) (all-head (isDefined keys) c m e)
+        (still m (all-tail (isDefined keys) c m e))
 
 -- cached keys are dropped
-pub cache-drop : {now : Stock} {keys : ℕ → List Place} {next : ℕ} {l : List Cached} (f : Cached → Bool) → CacheKept now keys next l → CacheKept now keys next (keep f l)
+pub cache-drop : {now : Stock} {keys : ℕ → List Place} {next : ℕ} {l : List Cached} (f : Cached → Bool) → CacheKept now keys next l
+    → CacheKept now keys next (keep f l)
 cache-drop {now} {keys} {next} {l} f k =
     record {
       few = omega (arith, length-keep f l, k .few);

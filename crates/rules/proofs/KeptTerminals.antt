@@ -37,7 +37,8 @@ kept-read {p} s key pick lt a d o al k =
       keys = k .keys;
       cache =
           byCase (touched ((session s (p .slots)) .changes) (p .keys key)) (λ e. rw e (k .cache))
-          (λ e. byCase (isCached key (p .cache)) (λ t. rw (e, t) (k .cache)) (λ t. rw (e, t) (cache-read key (pick .gives) al (has-begun s (has-slot s (p .slots) a) k) t lt d (k .cache))));
+          (λ e. byCase (isCached key (p .cache)) (λ t. rw (e, t) (k .cache))
+          (λ t. rw (e, t) (cache-read key (pick .gives) al (has-begun s (has-slot s (p .slots) a) k) t lt d (k .cache))));
       slots = slots-read s (p .keys key) a (λ x n u e. none-other s (p .slots) (p .keys key) x n o u e) (k .slots);
       fresh = numbers-each (isFresh (p .buffer) (p .rows)) (onlyAt s (withShared (p .clock) (p .keys key))) (p .slots) (k .fresh);
       buffer = k .buffer;
@@ -50,15 +51,19 @@ kept-read {p} s key pick lt a d o al k =
     }
 
 -- ── change ──
-pub kept-change : {p : Plant} (s : ℕ) (c : Update) → (session s (p .slots)) .doomed ≡ false → updateOk c ≡ true → leb changeLimit (length ((session s (p .slots)) .changes)) ≡ false
-    → othersExclusive s (c .at .document) (p .slots) ≡ false → meets c (seen p ((session s (p .slots)) .changes) (c .at)) ≡ none → Kept p → Kept (changed s c p)
+pub kept-change : {p : Plant} (s : ℕ) (c : Update) → (session s (p .slots)) .doomed ≡ false → updateOk c ≡ true
+    → leb changeLimit (length ((session s (p .slots)) .changes)) ≡ false
+    → othersExclusive s (c .at .document) (p .slots) ≡ false → meets c (seen p ((session s (p .slots)) .changes) (c .at)) ≡ none → Kept p → Kept
+    (changed s c p)
 unfolding changed
 kept-change {p} s c a u f o m k =
     record {
       store = k .store;
       keys = k .keys;
       cache = k .cache;
-      slots = slots-change s c a u (leb-false changeLimit (length ((session s (p .slots)) .changes)) f) m (λ n e. others-not s n (c .at .document) (p .slots) o e) (k .slots);
+      slots =
+          slots-change s c a u (leb-false changeLimit (length ((session s (p .slots)) .changes)) f) m
+          (λ n e. others-not s n (c .at .document) (p .slots) o e) (k .slots);
       fresh = numbers-each (isFresh (p .buffer) (p .rows)) (grant (p .clock) s c) (p .slots) (k .fresh);
       buffer = k .buffer;
       rows = k .rows;
@@ -75,13 +80,16 @@ nil-is [] e = refl
 nil-is (c ∷ l) e = absurd (true≢false (sym e))
 
 -- after a commit the current stock is what the session saw
-pub commit-current : (p : Plant) (s : ℕ) → not (isEmpty ((session s (p .slots)) .changes)) && leb bufferLimit (length (p .buffer)) ≡ false → has s (p .rows) ≡ false → current (committed s p) ≡ seen p ((session s (p .slots)) .changes)
+pub commit-current : (p : Plant) (s : ℕ) → not (isEmpty ((session s (p .slots)) .changes)) && leb bufferLimit (length (p .buffer)) ≡ false
+    → has s (p .rows) ≡ false → current (committed s p) ≡ seen p ((session s (p .slots)) .changes)
 unfolding committed
 commit-current p s r nr =
     byCase (isEmpty cs)
-    (λ e. ap (λ z. follow (p .store) (changesIn (pending (p .rows) (cond z (p .buffer) (pushed bufferLimit (p .buffer) b))))) e ∙ ap (follow (current p)) (sym (nil-is cs e)))
+    (λ e. ap (λ z. follow (p .store) (changesIn (pending (p .rows) (cond z (p .buffer) (pushed bufferLimit (p .buffer) b))))) e ∙ ap
+    (follow (current p)) (sym (nil-is cs e)))
     (λ e. ap (λ z. follow (p .store) (changesIn (pending (p .rows) (cond z (p .buffer) (pushed bufferLimit (p .buffer) b))))) e
-    ∙ ap (λ (l : List Batch). follow (p .store) (changesIn (pending (p .rows) l))) (pushed-room bufferLimit (p .buffer) b (buffer-room cs (p .buffer) r e)) ∙ ap (follow (p .store)) (flat-commit (p .rows) (p .buffer) b nr)
+    ∙ ap (λ (l : List Batch). follow (p .store) (changesIn (pending (p .rows) l)))
+    (pushed-room bufferLimit (p .buffer) b (buffer-room cs (p .buffer) r e)) ∙ ap (follow (p .store)) (flat-commit (p .rows) (p .buffer) b nr)
     ∙ follow-append (p .store) (changesIn (pending (p .rows) (p .buffer))) cs)
   where
     cs : List Update
@@ -101,19 +109,26 @@ pub buffered-snoc : (n : ℕ) (l : List Batch) (b : Batch) → isBuffered n l �
 buffered-snoc n [] b e h = rw h
 buffered-snoc n (x ∷ l) b e h = byCase (eqb n (x .number)) (λ t. absurd (true≢false (rw t at e))) (λ t. rw t (buffered-snoc n l b (rw t at e) h))
 
-pub kept-commit : {p : Plant} (s : ℕ) → (session s (p .slots)) .doomed ≡ false → not (isEmpty ((session s (p .slots)) .changes)) && leb bufferLimit (length (p .buffer)) ≡ false → Kept p → Kept (committed s p)
+pub kept-commit : {p : Plant} (s : ℕ) → (session s (p .slots)) .doomed ≡ false
+    → not (isEmpty ((session s (p .slots)) .changes)) && leb bufferLimit (length (p .buffer)) ≡ false → Kept p → Kept (committed s p)
 unfolding committed
 kept-commit {p} s a full? k =
     record {
       store = k .store;
       keys = k .keys;
-      cache = subst (λ (z : Stock). CacheKept z (p .keys) (p .next) (map (upToDate (p .keys) (seen p cs)) (p .cache))) (sym now-is) (cache-update (seen p cs) (k .cache));
+      cache =
+          subst (λ (z : Stock). CacheKept z (p .keys) (p .next) (map (upToDate (p .keys) (seen p cs)) (p .cache))) (sym now-is)
+          (cache-update (seen p cs) (k .cache));
       slots = subst (λ (z : Stock). SlotsKept z (p .clock) (p .next) (freed s (p .slots))) (sym now-is) (slots-commit s a (k .slots));
-      fresh = all-imp (λ x. isFresh (p .buffer) (p .rows) (x .number) && not (eqb s (x .number))) (λ x. isFresh (bufferedAfter s cs (p .buffer)) (p .rows) (x .number)) (λ x e. fresh′ (x .number) e) (freed s (p .slots))
+      fresh =
+          all-imp (λ x. isFresh (p .buffer) (p .rows) (x .number) && not (eqb s (x .number)))
+          (λ x. isFresh (bufferedAfter s cs (p .buffer)) (p .rows) (x .number)) (λ x e. fresh′ (x .number) e) (freed s (p .slots))
           (keep-and (λ x. isFresh (p .buffer) (p .rows) (x .number)) (λ x. not (eqb s (x .number))) (p .slots) (k .fresh));
       buffer = byCase (isEmpty cs) (λ e. rw e (k .buffer)) (λ e. rw (e, grown e) (longer e));
       rows = k .rows;
-      hands = λ w lt. byCase (isEmpty cs) (λ e. rw e (k .hands w lt)) (λ e. rw (e, grown e) (hand-last (p .rows) (p .buffer) (b ∷ []) (p .hands w) (k .hands w lt)));
+      hands =
+          λ w lt. byCase (isEmpty cs) (λ e. rw e (k .hands w lt))
+          (λ e. rw (e, grown e) (hand-last (p .rows) (p .buffer) (b ∷ []) (p .hands w) (k .hands w lt)));
       queue = k .queue;
       clock = k .clock;
       begun = k .begun;
@@ -146,7 +161,8 @@ kept-commit {p} s a full? k =
         let x = and-true (isFresh (p .buffer) (p .rows) n) (not (eqb s n)) e in
         let y = and-true (not (isBuffered n (p .buffer))) (not (has n (p .rows))) (x .0) in
         both (not (isBuffered n (bufferedAfter s cs (p .buffer)))) (not (has n (p .rows)))
-        (byCase (isEmpty cs) (λ t. rw t (y .0)) (λ t. rw (t, grown t, buffered-snoc n (p .buffer) b (not-true _ (y .0)) (eqb-sym s n (not-true _ (x .1))))))
+        (byCase (isEmpty cs) (λ t. rw t (y .0))
+        (λ t. rw (t, grown t, buffered-snoc n (p .buffer) b (not-true _ (y .0)) (eqb-sym s n (not-true _ (x .1))))))
         (y .1)
 
     longer : isEmpty cs ≡ false → BufferKept (p .store) (p .rows) (p .next) (p .buffer ++ (b ∷ []))
@@ -156,7 +172,8 @@ kept-commit {p} s a full? k =
         (sym (buffered-nums s (p .buffer)) ∙ not-true _ (new .0)) (not-true _ (new .1))
         (both (goodNumber (p .next) s && not (isEmpty cs) && leb (length cs) changeLimit) (all updateOk cs)
         (both (goodNumber (p .next) s && not (isEmpty cs)) (leb (length cs) changeLimit)
-        (both (goodNumber (p .next) s) (not (isEmpty cs)) (number-look (goodNumber (p .next)) s (p .slots) (k .slots .numbers) th) (rw e)) (le-leb (length cs) changeLimit (mine .few)))
+        (both (goodNumber (p .next) s) (not (isEmpty cs)) (number-look (goodNumber (p .next)) s (p .slots) (k .slots .numbers) th) (rw e))
+        (le-leb (length cs) changeLimit (mine .few)))
         (mine .formed))
         (mine .accepted) (k .buffer)
 

@@ -13,12 +13,12 @@ use Rattle.rules.specs.Lists.{keep, all, isEmpty, has, sameCase}
 use Rattle.rules.specs.Limits.{rowLimit, workerCount, leaseTicks}
 use Rattle.rules.specs.Values.{Stock}
 use Rattle.rules.specs.Changes.{follow}
-use Rattle.rules.specs.Tables.{Batch, isBuffered, oldest, isOldest, batchOf, unbuffer, pending, changesIn, Hand, empty, holds, full, replied, handed, anyHand, Queue, idle, leased, ownedBy, Plant, removable, withStore, withBuffer, withRows, withHand, withQueue, withNear}
+use Rattle.rules.specs.Tables.{Batch, numbersOf, isBuffered, oldest, isOldest, batchOf, unbuffer, pending, changesIn, Hand, empty, holds, full, replied, handed, anyHand, Queue, idle, leased, ownedBy, Plant, removable, withStore, withBuffer, withRows, withHand, withQueue, withNear}
 use Rattle.rules.specs.Reading.{current}
 use Rattle.rules.specs.Calls.{Fate, arrives, lost, unreached, fateNumber}
 use Rattle.rules.specs.Conditions.{noRoom}
 use Rattle.rules.specs.Effects.{room, taken, carried, applied, ended, orphaned, deleted, cut, swept}
-use Rattle.rules.specs.Kept.{goodNumber, inTime, isFresh, numbersOf, ownerOk, queueOk}
+use Rattle.rules.specs.Kept.{goodNumber, inTime, isFresh, ownerOk, queueOk}
 use Rattle.rules.proofs.Laws.{byCase, and-true, both, pushed-room}
 use Rattle.rules.proofs.Tests.{all-imp, all-snoc, all-keep}
 use Rattle.rules.proofs.Accepts.{run-ok}
@@ -26,7 +26,8 @@ use Rattle.rules.proofs.KeptParts.{CacheKept, SlotsKept, HandOk, Kept}
 use Rattle.rules.proofs.Buffer.{isOldest-oldest, is-oldest, has-row, has-snoc-false, once-snoc, hand-rows, pending-unbuffer, nums-unbuffer, has-keep-false, once-keep, hand-unbuffer, length-keep, not-swept, has-kept, pending-rows, hand-keep, in-any, buffered-nums, not-held, row-room, carried-row}
 use Rattle.rules.proofs.KeptTables.{buffer-carry, buffer-delete, buffer-sweep}
 
-pub kept-hands : {p : Plant} (w : ℕ) (h : Hand) (q : Queue) → (w < workerCount → HandOk (p .rows) (p .buffer) h) → queueOk (p .clock) q ≡ true → Kept p → Kept (withHand w h (withQueue q p))
+pub kept-hands : {p : Plant} (w : ℕ) (h : Hand) (q : Queue) → (w < workerCount → HandOk (p .rows) (p .buffer) h) → queueOk (p .clock) q ≡ true
+    → Kept p → Kept (withHand w h (withQueue q p))
 kept-hands {p} w h q o e k =
     record {
       store = k .store;
@@ -48,7 +49,8 @@ unfolding taken
 kept-take {p} w lt e k =
     kept-hands w (holds (oldest (p .buffer)) false) (leased (some w) (p .clock)) (λ z. inr (refl, isOldest-oldest (p .buffer) e))
     (both (inTime (p .clock) (p .clock)) (ltb w workerCount)
-    (both (leb (p .clock) (p .clock)) (ltb (p .clock) (p .clock + leaseTicks)) (le-leb (p .clock) (p .clock) (omega arith)) (lt-ltb (p .clock) (p .clock + leaseTicks) (omega arith)))
+    (both (leb (p .clock) (p .clock)) (ltb (p .clock) (p .clock + leaseTicks)) (le-leb (p .clock) (p .clock) (omega arith))
+    (lt-ltb (p .clock) (p .clock + leaseTicks) (omega arith)))
     (lt-ltb w workerCount lt)) k
 
 pub queue-orphaned : (w clock : ℕ) (q : Queue) → queueOk clock q ≡ true → queueOk clock (orphaned w q) ≡ true
@@ -68,11 +70,14 @@ pub oldest-buffered : (n : ℕ) (l : List Batch) → isOldest n l ≡ true → i
 oldest-buffered n [] e = absurd (true≢false (sym e))
 oldest-buffered n (b ∷ l) e = rw e
 
-pub kept-carry : {p : Plant} (n : ℕ) → (has n (p .rows) ≡ false → isOldest n (p .buffer) ≡ true) → leb rowLimit (length (p .rows)) && not (has n (p .rows)) ≡ false → Kept p → Kept (carried n p)
+pub kept-carry : {p : Plant} (n : ℕ) → (has n (p .rows) ≡ false → isOldest n (p .buffer) ≡ true)
+    → leb rowLimit (length (p .rows)) && not (has n (p .rows)) ≡ false → Kept p → Kept (carried n p)
 unfolding carried
-kept-carry {p} n old sp k = byCase (has n (p .rows)) (λ e. rw e k) (λ e. rw (e, pushed-room rowLimit (p .rows) n (row-room n (p .rows) sp e)) (go e (old e)))
+kept-carry {p} n old sp k =
+    byCase (has n (p .rows)) (λ e. rw e k) (λ e. rw (e, pushed-room rowLimit (p .rows) n (row-room n (p .rows) sp e)) (go e (old e)))
   where
-    go : has n (p .rows) ≡ false → isOldest n (p .buffer) ≡ true → Kept (withStore (follow (p .store) (batchOf n (p .buffer))) (withRows (p .rows ++ (n ∷ [])) p))
+    go : has n (p .rows) ≡ false → isOldest n (p .buffer) ≡ true
+        → Kept (withStore (follow (p .store) (batchOf n (p .buffer))) (withRows (p .rows ++ (n ∷ [])) p))
     go e o =
         let c = buffer-carry (p .buffer) n o e (k .buffer) in
         record {
@@ -80,9 +85,15 @@ kept-carry {p} n old sp k = byCase (has n (p .rows)) (λ e. rw e k) (λ e. rw (e
           keys = k .keys;
           cache = subst (λ (z : Stock). CacheKept z (p .keys) (p .next) (p .cache)) (sym (c .same)) (k .cache);
           slots = subst (λ (z : Stock). SlotsKept z (p .clock) (p .next) (p .slots)) (sym (c .same)) (k .slots);
-          fresh = all-imp (λ x. isFresh (p .buffer) (p .rows) (x .number)) (λ x. isFresh (p .buffer) (p .rows ++ (n ∷ [])) (x .number)) (λ x z. fresh′ (x .number) z) (p .slots) (k .fresh);
+          fresh =
+              all-imp (λ x. isFresh (p .buffer) (p .rows) (x .number)) (λ x. isFresh (p .buffer) (p .rows ++ (n ∷ [])) (x .number))
+              (λ x z. fresh′ (x .number) z) (p .slots) (k .fresh);
           buffer = c .kept;
-          rows = record { few = rw (length-append (p .rows) (n ∷ [])) (omega (arith, row-room n (p .rows) sp e)); once = once-snoc n (p .rows) e (k .rows .once); numbers = all-snoc (goodNumber (p .next)) (p .rows) n (k .rows .numbers) (c .number) };
+          rows = record {
+            few = rw (length-append (p .rows) (n ∷ [])) (omega (arith, row-room n (p .rows) sp e));
+            once = once-snoc n (p .rows) e (k .rows .once);
+            numbers = all-snoc (goodNumber (p .next)) (p .rows) n (k .rows .numbers) (c .number);
+          };
           hands = λ w lt. hand-rows n (p .rows) (p .buffer) (p .hands w) (k .hands w lt);
           queue = k .queue;
           clock = k .clock;
@@ -95,9 +106,11 @@ kept-carry {p} n old sp k = byCase (has n (p .rows)) (λ e. rw e k) (λ e. rw (e
             let y = and-true (not (isBuffered m (p .buffer))) (not (has m (p .rows))) z in
             both (not (isBuffered m (p .buffer))) (not (has m (p .rows ++ (n ∷ [])))) (y .0)
             (rw (has-snoc-false m n (p .rows) (not-true _ (y .1))
-            (byCase (eqb m n) (λ t. absurd (true≢false (sym (oldest-buffered n (p .buffer) o) ∙ rw (eqb-true m n t) at (not-true (isBuffered m (p .buffer)) (y .0))))) (λ t. t))))
+            (byCase (eqb m n) (λ t. absurd
+            (true≢false (sym (oldest-buffered n (p .buffer) o) ∙ rw (eqb-true m n t) at (not-true (isBuffered m (p .buffer)) (y .0))))) (λ t. t))))
 
-pub kept-apply : {p : Plant} (fate : Fate) (w : ℕ) → w < workerCount → full (p .hands w) ≡ true → sameCase fateNumber fate arrives && noRoom w p ≡ false → Kept p → Kept (applied fate w p)
+pub kept-apply : {p : Plant} (fate : Fate) (w : ℕ) → w < workerCount → full (p .hands w) ≡ true
+    → sameCase fateNumber fate arrives && noRoom w p ≡ false → Kept p → Kept (applied fate w p)
 unfolding applied
 kept-apply {p} fate w lt f room k = go fate room
   where
@@ -118,13 +131,17 @@ kept-apply {p} fate w lt f room k = go fate room
 pub kept-delete : {p : Plant} (w : ℕ) → w < workerCount → full (p .hands w) ≡ true → replied (p .hands w) ≡ true → Kept p → Kept (deleted w p)
 unfolding deleted
 kept-delete {p} w lt f r k =
-    kept-hands {p = withBuffer (unbuffer (handed (p .hands w)) (p .buffer)) p} w empty (ended w (p .queue)) (λ z. tt) (queue-ended w (p .clock) (p .queue) (k .queue))
+    kept-hands {p =
+    withBuffer (unbuffer (handed (p .hands w))
+    (p .buffer)) p} w empty (ended w (p .queue)) (λ z. tt) (queue-ended w (p .clock) (p .queue) (k .queue))
     record {
       store = k .store;
       keys = k .keys;
       cache = subst (λ (z : Stock). CacheKept z (p .keys) (p .next) (p .cache)) (sym same) (k .cache);
       slots = subst (λ (z : Stock). SlotsKept z (p .clock) (p .next) (p .slots)) (sym same) (k .slots);
-      fresh = all-imp (λ x. isFresh (p .buffer) (p .rows) (x .number)) (λ x. isFresh (unbuffer n (p .buffer)) (p .rows) (x .number)) (λ x z. fresh′ (x .number) z) (p .slots) (k .fresh);
+      fresh =
+          all-imp (λ x. isFresh (p .buffer) (p .rows) (x .number)) (λ x. isFresh (unbuffer n (p .buffer)) (p .rows) (x .number))
+          (λ x z. fresh′ (x .number) z) (p .slots) (k .fresh);
       buffer = buffer-delete n row (k .buffer);
       rows = k .rows;
       hands = λ v lv. hand-unbuffer n (p .rows) (p .buffer) (p .hands v) row (k .hands v lv);
@@ -147,7 +164,12 @@ kept-delete {p} w lt f r k =
     fresh′ m z =
         let y = and-true (not (isBuffered m (p .buffer))) (not (has m (p .rows))) z in
         both (not (isBuffered m (unbuffer n (p .buffer)))) (not (has m (p .rows)))
-        (rw (buffered-nums m (unbuffer n (p .buffer)), nums-unbuffer n (p .buffer), has-keep-false (λ i. not (eqb n i)) m (numbersOf (p .buffer)) (sym (buffered-nums m (p .buffer)) ∙ not-true _ (y .0))))
+        (rw (
+          buffered-nums m (unbuffer n (p .buffer)),
+          nums-unbuffer n (p .buffer),
+          has-keep-false (λ i. not (eqb n i)) m (numbersOf (p .buffer))
+              (sym (buffered-nums m (p .buffer)) ∙ not-true _ (y .0)),
+        ))
         (y .1)
 
 pub kept-sweep : {p : Plant} (l : List ℕ) → all (λ n. has n (p .rows) && removable p n) l ≡ true → Kept p → Kept (swept l p)
@@ -158,9 +180,15 @@ kept-sweep {p} l a k =
       keys = k .keys;
       cache = subst (λ (z : Stock). CacheKept z (p .keys) (p .next) (p .cache)) (sym same) (k .cache);
       slots = subst (λ (z : Stock). SlotsKept z (p .clock) (p .next) (p .slots)) (sym same) (k .slots);
-      fresh = all-imp (λ x. isFresh (p .buffer) (p .rows) (x .number)) (λ x. isFresh (p .buffer) rows′ (x .number)) (λ x z. fresh′ (x .number) z) (p .slots) (k .fresh);
+      fresh =
+          all-imp (λ x. isFresh (p .buffer) (p .rows) (x .number)) (λ x. isFresh (p .buffer) rows′ (x .number)) (λ x z. fresh′ (x .number) z)
+          (p .slots) (k .fresh);
       buffer = buffer-sweep (λ n. not (has n l)) in-buffer (k .buffer);
-      rows = record { few = omega (arith, length-keep (λ n. not (has n l)) (p .rows), k .rows .few); once = once-keep (λ n. not (has n l)) (p .rows) (k .rows .once); numbers = all-keep (goodNumber (p .next)) (λ n. not (has n l)) (p .rows) (k .rows .numbers) };
+      rows = record {
+        few = omega (arith, length-keep (λ n. not (has n l)) (p .rows), k .rows .few);
+        once = once-keep (λ n. not (has n l)) (p .rows) (k .rows .once);
+        numbers = all-keep (goodNumber (p .next)) (λ n. not (has n l)) (p .rows) (k .rows .numbers);
+      };
       hands = λ w lt. hand-keep (p .rows) rows′ (p .buffer) (p .hands w) (λ n e. stays n (inr (in-any (p .hands) n w lt e))) (k .hands w lt);
       queue = k .queue;
       clock = k .clock;

@@ -1,19 +1,17 @@
 -- Laws of conditions, stocks and pages.
 use Prim.Native.Nat.{_<_, ℕ}
-use native.Mathlib.Omega.{arith}
 use mathlib.Core.Path.{_≡_, ap, fun-ext, refl, subst, sym}
 use mathlib.Core.Bool.{Bool, _&&_, _||_, false, true, true≢false}
 use mathlib.Core.Option.{Option, none, some}
 use mathlib.Core.List.{List, [], _++_, _∷_, append-assoc}
 use lib.ListN.{length}
-use lib.Dec.{eqb, ltb}
+use lib.Dec.{eqb}
 use lib.IntN.{negsuc, pos, ℤ}
-use lib.Signed.{leZ, ltZ}
-use borrow.Author.Tests.{eq-eqb, eqb-false, eqb-true, le-leb, lt-ltb, ltb-true, ne-eqb}
+use borrow.Author.Tests.{eq-eqb, eqb-false, eqb-true, lt-ltb, ltb-true, ne-eqb}
 use Rattle.rules.specs.Lists.{pushed, isEmpty}
 use Rattle.rules.specs.Refusals.{Refusal, _⇒_, first}
 use Rattle.rules.specs.Values.{below, natOf, Place, samePlace, Field, Stock}
-use Rattle.rules.specs.Changes.{Update, updated, after, run, follow}
+use Rattle.rules.specs.Changes.{Update, after, run, follow}
 use Rattle.rules.specs.History.{saw, wrote, Page, changesOf, Committed, whole}
 use Rattle.rules.specs.Demand3.{Right, AllRight}
 
@@ -69,11 +67,6 @@ pub below-is : (z : ℤ) (n : ℕ) → below z n ≡ true → natOf z < n
 below-is (pos k) n e = ltb-true k n e
 below-is (negsuc k) n e = absurd (true≢false (sym e))
 
--- the range test of an argument, as code makes it
-pub below-tests : (z : ℤ) (n : ℕ) → below z n ≡ leZ (pos 0) z && ltZ z (pos n)
-below-tests (pos k) n = ap (λ b. b && ltb k n) (sym (le-leb 0 k (omega arith)))
-below-tests (negsuc k) n = refl
-
 -- ── stocks ──
 pub run-append : (a b : List Update) (p : Place) (f : Field) → run (a ++ b) p f ≡ run b p (run a p f)
 run-append [] b p f = refl
@@ -99,12 +92,21 @@ right-append s (wrote c ∷ a) b r t = (r .0, right-append (follow s (c ∷ []))
 
 pub allRight-append : (s : Stock) (a b : List Committed) → AllRight s a → AllRight (follow s (whole a)) b → AllRight s (a ++ b)
 allRight-append s [] b r t = t
-allRight-append s (x ∷ a) b r t =
-    (r .0, allRight-append (follow s (changesOf (x .page))) a b (r .1) (subst (λ z. AllRight z b) (follow-append s (changesOf (x .page)) (whole a)) t))
+allRight-append s (x ∷ a) b r t = (
+  r .0,
+  allRight-append (follow s (changesOf (x .page))) a b (r .1)
+      (subst (λ z. AllRight z b) (follow-append s (changesOf (x .page)) (whole a)) t),
+)
 
 -- ── places ──
 pub samePlace-is : (q r : Place) → samePlace q r ≡ true → q ≡ r
-samePlace-is q r e = λ i. record { document = eqb-true (q .document) (r .document) (l (eqb (q .document) (r .document)) (eqb (q .field) (r .field)) e) i; field = eqb-true (q .field) (r .field) (g (eqb (q .document) (r .document)) (eqb (q .field) (r .field)) e) i }
+samePlace-is q r e =
+    λ i. record {
+      document =
+          eqb-true (q .document) (r .document) (l (eqb (q .document) (r .document)) (eqb (q .field) (r .field)) e) i;
+      field =
+          eqb-true (q .field) (r .field) (g (eqb (q .document) (r .document)) (eqb (q .field) (r .field)) e) i;
+    }
   where
     l : (a b : Bool) → a && b ≡ true → a ≡ true
     l true b h = refl
@@ -113,12 +115,6 @@ samePlace-is q r e = λ i. record { document = eqb-true (q .document) (r .docume
     g : (a b : Bool) → a && b ≡ true → b ≡ true
     g true b h = h
     g false b h = absurd (true≢false (sym h))
-
--- a change that leaves its field equal changes nothing
-pub follow-equal : (s : Stock) (c : Update) (q : Place) → updated c (s (c .at)) ≡ s (c .at) → follow s (c ∷ []) q ≡ s q
-unfolding after
-follow-equal s c q e =
-    byCase (samePlace q (c .at)) (λ t. rw (t, samePlace-is q (c .at) t) e) (λ t. rw t)
 
 -- ── lists ──
 -- a table that has room grows by one

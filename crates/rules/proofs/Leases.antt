@@ -33,15 +33,18 @@ right-agree lease s t (wrote c ∷ l) a h r = (
 )
 
 -- changes of documents that are held exclusively leave the other documents
-pub run-apart : (lease : ℕ → Lease) (page : Page) (q : Place) (f : Field) → Held lease page → ((d : ℕ) → isExclusive (lease d) ≡ true → eqb (q .document) d ≡ false) → run (changesOf page) q f ≡ f
+pub run-apart : (lease : ℕ → Lease) (page : Page) (q : Place) (f : Field) → Held lease page
+    → ((d : ℕ) → isExclusive (lease d) ≡ true → eqb (q .document) d ≡ false) → run (changesOf page) q f ≡ f
 unfolding after
 run-apart lease [] q f h z = refl
 run-apart lease (saw qs ws ∷ l) q f h z = run-apart lease l q f (h .1) z
 run-apart lease (wrote c ∷ l) q f h z =
-    ap (λ b. run (changesOf l) q (cond (b && eqb (q .field) (c .at .field)) (updated c f) f)) (z (c .at .document) (h .0)) ∙ run-apart lease l q f (h .1) z
+    ap (λ b. run (changesOf l) q (cond (b && eqb (q .field) (c .at .field)) (updated c f) f)) (z (c .at .document) (h .0)) ∙ run-apart lease l q f
+    (h .1) z
 
 -- the same of a list of changes
-pub run-off : (lease : ℕ → Lease) (cs : List Update) (q : Place) (f : Field) → AllEx lease cs → ((d : ℕ) → isExclusive (lease d) ≡ true → eqb (q .document) d ≡ false) → run cs q f ≡ f
+pub run-off : (lease : ℕ → Lease) (cs : List Update) (q : Place) (f : Field) → AllEx lease cs
+    → ((d : ℕ) → isExclusive (lease d) ≡ true → eqb (q .document) d ≡ false) → run cs q f ≡ f
 unfolding after
 run-off lease [] q f h z = refl
 run-off lease (c ∷ l) q f h z =

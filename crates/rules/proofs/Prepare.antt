@@ -77,10 +77,13 @@ pub prepare-near : (v : ℕ) (lent : List ℤ) (pick : Pick) (p : Plant)
     → (isFine ((step (Store (pos 1)) lent pick p) .answer) ≡ true) × Prepared v 0 false true p ((step (Store (pos 1)) lent pick p) .plant)
 unfolding conditions accepted _⇒_
 prepare-near v lent pick p =
-    rw (step-fine (Store (pos 1)) lent pick p (refl, tt)) (refl, record { buffer = refl; clock = omega arith; near = sym (or-one (p .near)); hand = refl; past = λ k z. z })
+    rw (step-fine (Store (pos 1)) lent pick p (refl, tt))
+    (refl, record { buffer = refl; clock = omega arith; near = sym (or-one (p .near)); hand = refl; past = λ k z. z })
 
-pub prepare-step : (v : ℕ) → v < workerCount → (x : Preparation) (lent : List ℤ) (pick : Pick) (p : Plant) → ticksOf x ≤ leaseTicks → p .clock + ticksOf x ≤ lastTick
-    → (isFine ((step (preparing v x) lent pick p) .answer) ≡ true) × Prepared v (ticksOf x) (isCut x) (isNear x) p ((step (preparing v x) lent pick p) .plant)
+pub prepare-step : (v : ℕ) → v < workerCount → (x : Preparation) (lent : List ℤ) (pick : Pick) (p : Plant) → ticksOf x ≤ leaseTicks
+    → p .clock + ticksOf x ≤ lastTick
+    → (isFine ((step (preparing v x) lent pick p) .answer) ≡ true) × Prepared v (ticksOf x) (isCut x) (isNear x) p
+    ((step (preparing v x) lent pick p) .plant)
 prepare-step v lt cutWorker lent pick p h t = prepare-cut v lent pick p lt
 prepare-step v lt bringNear lent pick p h t = prepare-near v lent pick p
 prepare-step v lt (wait n) lent pick p h t = prepare-advance v n lent pick p h t
@@ -89,7 +92,8 @@ pub record PreparedAll (v : ℕ) (l : List Preparation) (ts : List Turn) (w : Wo
   pub noneRefused : NoneRefused ts (w .plant)
   pub prepared : Prepared v (ticks l) (any isCut l) (any isNear l) (w .plant) ((turns ts w) .plant)
 
-pub prepared-then : (v : ℕ) (n m : ℕ) (c d s t : Bool) (p q r : Plant) → Prepared v n c s p q → Prepared v m d t q r → Prepared v (n + m) (cond c true d) (cond s true t) p r
+pub prepared-then : (v : ℕ) (n m : ℕ) (c d s t : Bool) (p q r : Plant) → Prepared v n c s p q → Prepared v m d t q r
+    → Prepared v (n + m) (cond c true d) (cond s true t) p r
 prepared-then v n m c d s t p q r a b =
     record {
       buffer = b .buffer ∙ a .buffer;
@@ -109,9 +113,13 @@ prepared-then v n m c d s t p q r a b =
     hands true false z = refl
     hands false y z = refl
 
-pub prepare-run : (v : ℕ) → v < workerCount → (l : List Preparation) (ts : List Turn) (w : World) → callsOf ts ≡ map (preparing v) l → ticks l ≤ leaseTicks → (w .plant) .clock + ticks l ≤ lastTick
+pub prepare-run : (v : ℕ) → v < workerCount → (l : List Preparation) (ts : List Turn) (w : World) → callsOf ts ≡ map (preparing v) l
+    → ticks l ≤ leaseTicks → (w .plant) .clock + ticks l ≤ lastTick
     → PreparedAll v l ts w
-prepare-run v lt [] [] w c h t = record { noneRefused = tt; prepared = record { buffer = refl; clock = omega arith; near = sym (or-zero _); hand = refl; past = λ k z. z } }
+prepare-run v lt [] [] w c h t = record {
+  noneRefused = tt;
+  prepared = record { buffer = refl; clock = omega arith; near = sym (or-zero _); hand = refl; past = λ k z. z };
+}
 prepare-run v lt [] (u ∷ ts) w c h t = absurd (nil≢cons (sym c))
 prepare-run v lt (x ∷ l) [] w c h t = absurd (nil≢cons c)
 prepare-run v lt (x ∷ l) (u ∷ ts) w c h t =

@@ -27,7 +27,9 @@ pub sessions-each : {now : Stock} (look : ℕ → Session) (there : ℕ → Bool
 sessions-each look there page′ f a b =
     record {
       live = λ m d. byCase (there m) (λ e. rw e (a m (rw e at d))) (λ e. absurd (true≢false (rw e at d)));
-      apart = λ k m d ne x. byCase (there m) (λ e. rw e (b k m d ne (byCase (there k) (λ t. rw t at x) (λ t. absurd (true≢false (sym (rw t at x))))))) (λ e. rw e);
+      apart =
+          λ k m d ne x. byCase (there m) (λ e. rw e (b k m d ne (byCase (there k) (λ t. rw t at x) (λ t. absurd (true≢false (sym (rw t at x)))))))
+          (λ e. rw e);
     }
 
 module _ {now : Stock} {page : ℕ → Page} {look : ℕ → Session} where
@@ -39,7 +41,9 @@ module _ {now : Stock} {page : ℕ → Page} {look : ℕ → Session} where
   sessions-end n i =
       record {
         live = λ m d. byCase (eqb m n) (λ e. absurd (true≢false (rw e at d))) (λ e. rw e (i .live m (rw e at d)));
-        apart = λ k m d ne x. byCase (eqb m n) (λ e. rw e) (λ e. rw e (i .apart k m d ne (byCase (eqb k n) (λ t. absurd (true≢false (sym (rw t at x)))) (λ t. rw t at x))));
+        apart =
+            λ k m d ne x. byCase (eqb m n) (λ e. rw e)
+            (λ e. rw e (i .apart k m d ne (byCase (eqb k n) (λ t. absurd (true≢false (sym (rw t at x)))) (λ t. rw t at x))));
       }
 
 -- ── one session reads, changes ──
@@ -60,7 +64,8 @@ shared-grows now qs t =
     ke (shared u) h = h
     ke (exclusive u) h = refl
 
-pub shared-ex : (now : ℕ) (qs : List Place) (t : Session) (d : ℕ) → isExclusive ((withShared now qs t) .lease d) ≡ true → isExclusive (t .lease d) ≡ true
+pub shared-ex : (now : ℕ) (qs : List Place) (t : Session) (d : ℕ) → isExclusive ((withShared now qs t) .lease d) ≡ true
+    → isExclusive (t .lease d) ≡ true
 shared-ex now qs t d h = byCase (documentIn d qs) (λ e. ke (t .lease d) (rw e at h)) (λ e. rw e at h)
   where
     ke : (x : Lease) → isExclusive (orShared now x) ≡ true → isExclusive x ≡ true
@@ -68,17 +73,22 @@ shared-ex now qs t d h = byCase (documentIn d qs) (λ e. ke (t .lease d) (rw e a
     ke (shared u) z = z
     ke (exclusive u) z = refl
 
-pub held-docs : (now : ℕ) (t : Session) (all qs : List Place) → ((d : ℕ) → documentIn d qs ≡ true → documentIn d all ≡ true) → HeldAll ((withShared now all t) .lease) qs
+pub held-docs : (now : ℕ) (t : Session) (all qs : List Place) → ((d : ℕ) → documentIn d qs ≡ true → documentIn d all ≡ true)
+    → HeldAll ((withShared now all t) .lease) qs
 held-docs now t all [] h = tt
-held-docs now t all (q ∷ qs) h =
-    (rw (h (q .document) (rw (self (q .document)))) (kh (t .lease (q .document))), held-docs now t all qs (λ d e. h d (byCase (eqb d (q .document)) (λ x. rw x) (λ x. rw x e))))
+held-docs now t all (q ∷ qs) h = (
+  rw (h (q .document) (rw (self (q .document)))) (kh (t .lease (q .document))),
+  held-docs now t all qs
+      (λ d e. h d (byCase (eqb d (q .document)) (λ x. rw x) (λ x. rw x e))),
+)
   where
     kh : (x : Lease) → isHeld (orShared now x) ≡ true
     kh free = refl
     kh (shared u) = refl
     kh (exclusive u) = refl
 
-pub live-read : (now : Stock) (clock : ℕ) (pg : Page) (t : Session) (qs : List Place) (ws : List ℤ) → Live now pg t → ws ≡ showAll (map (follow now (changesOf pg)) qs)
+pub live-read : (now : Stock) (clock : ℕ) (pg : Page) (t : Session) (qs : List Place) (ws : List ℤ) → Live now pg t
+    → ws ≡ showAll (map (follow now (changesOf pg)) qs)
     → Live now (pg ++ (saw qs ws ∷ [])) (withShared clock qs t)
 live-read now clock pg t qs ws l e =
     record {
@@ -107,7 +117,8 @@ change-grows now c t =
     ke (shared u) = refl
     ke (exclusive u) = refl
 
-pub live-change : (now : Stock) (clock : ℕ) (pg : Page) (t : Session) (c : Update) → length (t .changes) < changeLimit → Live now pg t → meets c (follow now (changesOf pg) (c .at)) ≡ none
+pub live-change : (now : Stock) (clock : ℕ) (pg : Page) (t : Session) (c : Update) → length (t .changes) < changeLimit → Live now pg t
+    → meets c (follow now (changesOf pg) (c .at)) ≡ none
     → Live now (pg ++ (wrote c ∷ [])) (withChange clock c t)
 unfolding withExclusive withLast
 live-change now clock pg t c r l e =
@@ -131,7 +142,8 @@ live-change now clock pg t c r l e =
     ex = rw (self (c .at .document)) (ke (t .lease (c .at .document)))
 
 module _ {now : Stock} {page : ℕ → Page} {look : ℕ → Session} where
-  pub sessions-read : (there : ℕ → Bool) (clock s : ℕ) (qs : List Place) (ws : List ℤ) → (look s) .doomed ≡ false → ws ≡ showAll (map (follow now (changesOf (page s))) qs)
+  pub sessions-read : (there : ℕ → Bool) (clock s : ℕ) (qs : List Place) (ws : List ℤ) → (look s) .doomed ≡ false
+      → ws ≡ showAll (map (follow now (changesOf (page s))) qs)
       → ((d n : ℕ) → documentIn d qs ≡ true → eqb n s ≡ false → isExclusive ((look n) .lease d) ≡ false)
       → Sessions now page look
       → Sessions now (override page s (page s ++ (saw qs ws ∷ []))) (λ m. cond (there m) (onlyAt s (withShared clock qs) m (look m)) doomedSession)
@@ -152,7 +164,8 @@ module _ {now : Stock} {page : ℕ → Page} {look : ℕ → Session} where
       reader n m d ne q x =
           byCase (documentIn d qs) (λ t. absurd (true≢false (sym x ∙ o d n t (ne-eqb n s (λ z. ne (z ∙ sym q)))))) (λ t. rw t (i .apart n m d ne x))
 
-  pub sessions-change : (there : ℕ → Bool) (clock s : ℕ) (c : Update) → (look s) .doomed ≡ false → length ((look s) .changes) < changeLimit → meets c (follow now (changesOf (page s)) (c .at)) ≡ none
+  pub sessions-change : (there : ℕ → Bool) (clock s : ℕ) (c : Update) → (look s) .doomed ≡ false → length ((look s) .changes) < changeLimit
+      → meets c (follow now (changesOf (page s)) (c .at)) ≡ none
       → ((n : ℕ) → eqb n s ≡ false → isExclusive ((look n) .lease (c .at .document)) ≡ false)
       → Sessions now page look
       → Sessions now (override page s (page s ++ (wrote c ∷ []))) (λ m. cond (there m) (grant clock s c m (look m)) doomedSession)
@@ -161,14 +174,16 @@ module _ {now : Stock} {page : ℕ → Page} {look : ℕ → Session} where
       sessions-each look there _ (grant clock s c)
       (λ m d. byCase (eqb m s)
       (λ t. rw (t, eqb-true m s t) (live-change now clock (page s) (look s) c r (i .live s a) e))
-      (λ t. rw t (byCase (isHeld ((look m) .lease (c .at .document))) (λ u. absurd (true≢false (rw (t, u) at d))) (λ u. rw u (i .live m (rw (t, u) at d))))))
+      (λ t. rw t (byCase (isHeld ((look m) .lease (c .at .document))) (λ u. absurd (true≢false (rw (t, u) at d)))
+      (λ u. rw u (i .live m (rw (t, u) at d))))))
       (λ n m d ne x. byCase (eqb m s) (λ t. rw t (writer n m d ne (eqb-true m s t) x)) (λ t. rw t (other n m d ne t x)))
     where
       -- another session: it keeps what it had, or has lost all
       was : (n d : ℕ) → eqb n s ≡ false → isExclusive ((grant clock s c n (look n)) .lease d) ≡ true → isExclusive ((look n) .lease d) ≡ true
       was n d t x = byCase (isHeld ((look n) .lease (c .at .document))) (λ u. absurd (true≢false (sym (rw (t, u) at x)))) (λ u. rw (t, u) at x)
 
-      writer : (n m d : ℕ) → (n ≡ m → ⊥) → m ≡ s → isExclusive ((grant clock s c n (look n)) .lease d) ≡ true → isHeld ((withChange clock c (look m)) .lease d) ≡ false
+      writer : (n m d : ℕ) → (n ≡ m → ⊥) → m ≡ s → isExclusive ((grant clock s c n (look n)) .lease d) ≡ true
+          → isHeld ((withChange clock c (look m)) .lease d) ≡ false
       writer n m d ne q x = go (ne-eqb n s (λ z. ne (z ∙ sym q)))
         where
           go : eqb n s ≡ false → isHeld ((withChange clock c (look m)) .lease d) ≡ false
@@ -186,7 +201,8 @@ module _ {now : Stock} {page : ℕ → Page} {look : ℕ → Session} where
           (λ v. byCase (eqb d (c .at .document)) (λ y. rw (eqb-true d (c .at .document) y) u) (λ y. i .apart n m d ne (rw (v, y) at x)))
           (λ v. i .apart n m d ne (was n d v x))))
 
-  pub sessions-lapse : (there : ℕ → Bool) (clock : ℕ) → Sessions now page look → Sessions now page (λ m. cond (there m) (lapse clock m (look m)) doomedSession)
+  pub sessions-lapse : (there : ℕ → Bool) (clock : ℕ) → Sessions now page look
+      → Sessions now page (λ m. cond (there m) (lapse clock m (look m)) doomedSession)
   unfolding lapse
   sessions-lapse there clock i =
       sessions-each look there page (lapse clock)
@@ -197,30 +213,40 @@ module _ {now : Stock} {page : ℕ → Page} {look : ℕ → Session} where
       was n d x = byCase (lapses clock (look n)) (λ t. absurd (true≢false (sym (rw t at x)))) (λ t. rw t at x)
 
   -- the session commits: the others' pages are untouched by its changes
-  pub sessions-commit : (s : ℕ) → (look s) .doomed ≡ false → Sessions now page look → Sessions (follow now (changesOf (page s))) page (λ m. cond (eqb m s) doomedSession (look m))
+  pub sessions-commit : (s : ℕ) → (look s) .doomed ≡ false → Sessions now page look
+      → Sessions (follow now (changesOf (page s))) page (λ m. cond (eqb m s) doomedSession (look m))
   sessions-commit s a i =
       record {
         live = λ m d. byCase (eqb m s) (λ e. absurd (true≢false (rw e at d))) (λ e. rw e (kept m e (i .live m (rw e at d))));
         apart = sessions-end s i .apart;
       }
     where
-      clash : (m d : ℕ) (q : Place) → eqb m s ≡ false → isHeld ((look m) .lease (q .document)) ≡ true → isExclusive ((look s) .lease d) ≡ true → q .document ≡ d → ⊥
+      clash : (m d : ℕ) (q : Place) → eqb m s ≡ false → isHeld ((look m) .lease (q .document)) ≡ true → isExclusive ((look s) .lease d) ≡ true
+          → q .document ≡ d → ⊥
       clash m d q e z x w = true≢false (sym (rw w at z) ∙ i .apart s m d (λ y. eqb-false m s e (sym y)) x)
 
       agree : (m : ℕ) → eqb m s ≡ false → Agree ((look m) .lease) now (follow now (changesOf (page s)))
       agree m e q z = sym (run-apart ((look s) .lease) (page s) q (now q) (i .live s a .held) (λ d x. ne-eqb (q .document) d (clash m d q e z x)))
 
-      still : (m : ℕ) → eqb m s ≡ false → Live now (page m) (look m) → (q : Place) → follow (follow now (changesOf (page s))) (changesOf (page m)) q ≡ follow (follow now (changesOf (page s))) ((look m) .changes) q
+      still : (m : ℕ) → eqb m s ≡ false → Live now (page m) (look m) → (q : Place)
+          → follow (follow now (changesOf (page s))) (changesOf (page m)) q ≡ follow (follow now (changesOf (page s))) ((look m) .changes) q
       still m e l q =
           byCase (isHeld ((look m) .lease (q .document)))
           (λ z. rw (← agree m e q z) (l .same q))
-          (λ z. run-apart ((look m) .lease) (page m) q _ (l .held) (away z) ∙ sym (run-off ((look m) .lease) ((look m) .changes) q _ (l .mine) (away z)))
+          (λ z. run-apart ((look m) .lease) (page m) q _ (l .held) (away z) ∙ sym
+          (run-off ((look m) .lease) ((look m) .changes) q _ (l .mine) (away z)))
         where
           away : isHeld ((look m) .lease (q .document)) ≡ false → (d : ℕ) → isExclusive ((look m) .lease d) ≡ true → eqb (q .document) d ≡ false
           away z d x = ne-eqb (q .document) d (λ y. true≢false (sym (ex-held ((look m) .lease d) x) ∙ rw y at z))
 
       kept : (m : ℕ) → eqb m s ≡ false → Live now (page m) (look m) → Live (follow now (changesOf (page s))) (page m) (look m)
-      kept m e l = record { right = right-agree ((look m) .lease) now _ (page m) (agree m e) (l .held) (l .right); same = still m e l; silent = l .silent; mine = l .mine; held = l .held }
+      kept m e l = record {
+        right = right-agree ((look m) .lease) now _ (page m) (agree m e) (l .held) (l .right);
+        same = still m e l;
+        silent = l .silent;
+        mine = l .mine;
+        held = l .held;
+      }
 
   -- a session begins, under a number that has no slot
   pub sessions-open : (there : ℕ → Bool) (next clock : ℕ) → there next ≡ false → Sessions now page look
@@ -228,8 +254,12 @@ module _ {now : Stock} {page : ℕ → Page} {look : ℕ → Session} where
   sessions-open there next clock unused i =
       record {
         live = λ m d. byCase (there m) (λ e. rw (e, old m e) (i .live m (rw e at d)))
-            (λ e. rw e (byCase (eqb m next) (λ t. rw t (record { right = tt; same = λ q. refl; silent = refl; mine = tt; held = tt })) (λ t. absurd (true≢false (rw (e, t) at d)))));
-        apart = λ n m d ne x. byCase (there m) (λ e. rw e (byCase (there n) (λ t. i .apart n m d ne (rw t at x)) (λ t. absurd (true≢false (sym (rw t at x) ∙ none-ex n d))))) (λ e. rw e (none-held m d));
+            (λ e. rw e (byCase (eqb m next) (λ t. rw t (record { right = tt; same = λ q. refl; silent = refl; mine = tt; held = tt }))
+            (λ t. absurd (true≢false (rw (e, t) at d)))));
+        apart =
+            λ n m d ne x. byCase (there m)
+            (λ e. rw e (byCase (there n) (λ t. i .apart n m d ne (rw t at x)) (λ t. absurd (true≢false (sym (rw t at x) ∙ none-ex n d)))))
+            (λ e. rw e (none-held m d));
       }
     where
       old : (m : ℕ) → there m ≡ true → eqb m next ≡ false

@@ -75,7 +75,8 @@ abbrev pub given : Answer → List ℕ
 given (refused r) = []
 given (fine ns) = ns
 
-pub fine-none : (c : Call) (lent : List ℤ) (pick : Pick) (p : Plant) (ns : List ℕ) → (step c lent pick p) .answer ≡ fine ns → NoneMet (conditions c lent p)
+pub fine-none : (c : Call) (lent : List ℤ) (pick : Pick) (p : Plant) (ns : List ℕ) → (step c lent pick p) .answer ≡ fine ns
+    → NoneMet (conditions c lent p)
 unfolding step
 fine-none c lent pick p ns h = go (first (conditions c lent p)) refl h
   where

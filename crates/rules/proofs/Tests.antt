@@ -1,7 +1,7 @@
 -- Laws of the tests on lists: all, pairwise, any, once.
 use Prim.Native.Nat.{_+_, _<_, _≤_, suc, zero, ℕ}
 use native.Mathlib.Omega.{arith}
-use mathlib.Core.Path.{_≡_, ap, ap₂, refl, sym}
+use mathlib.Core.Path.{_∙_, _≡_, ap, ap₂, refl, sym}
 use mathlib.Core.Bool.{Bool, _&&_, false, not, true, true≢false}
 use mathlib.Core.List.{List, [], _++_, _∷_, map}
 use lib.ListN.{length, take}
@@ -41,7 +41,8 @@ module _ {A : Type 0} where
   pub all-and : (f g : A → Bool) (l : List A) → all f l ≡ true → all g l ≡ true → all (λ a. f a && g a) l ≡ true
   all-and f g [] e d = refl
   all-and f g (a ∷ l) e d =
-      both (f a && g a) (all (λ x. f x && g x) l) (both (f a) (g a) (all-head f a l e) (all-head g a l d)) (all-and f g l (all-tail f a l e) (all-tail g a l d))
+      both (f a && g a) (all (λ x. f x && g x) l) (both (f a) (g a) (all-head f a l e) (all-head g a l d))
+      (all-and f g l (all-tail f a l e) (all-tail g a l d))
 
   pub all-snoc : (f : A → Bool) (l : List A) (x : A) → all f l ≡ true → f x ≡ true → all f (l ++ (x ∷ [])) ≡ true
   all-snoc f [] x e h = both (f x) true h refl
@@ -50,7 +51,8 @@ module _ {A : Type 0} where
   pub all-keep : (f g : A → Bool) (l : List A) → all f l ≡ true → all f (keep g l) ≡ true
   all-keep f g [] e = refl
   all-keep f g (a ∷ l) e =
-      byCase (g a) (λ t. rw t (both (f a) (all f (keep g l)) (all-head f a l e) (all-keep f g l (all-tail f a l e)))) (λ t. rw t (all-keep f g l (all-tail f a l e)))
+      byCase (g a) (λ t. rw t (both (f a) (all f (keep g l)) (all-head f a l e) (all-keep f g l (all-tail f a l e))))
+      (λ t. rw t (all-keep f g l (all-tail f a l e)))
 
   pub all-take : (f : A → Bool) (n : ℕ) (l : List A) → all f l ≡ true → all f (take n l) ≡ true
   all-take f zero l e = refl
@@ -64,13 +66,15 @@ module _ {A : Type 0} where
 
   pub any-none : (f : A → Bool) (l : List A) → any f l ≡ false → all (λ a. not (f a)) l ≡ true
   any-none f [] e = refl
-  any-none f (a ∷ l) e = byCase (f a) (λ t. absurd (true≢false (rw t at e))) (λ t. both (not (f a)) (all (λ x. not (f x)) l) (rw t) (any-none f l (rw t at e)))
+  any-none f (a ∷ l) e =
+      byCase (f a) (λ t. absurd (true≢false (rw t at e))) (λ t. both (not (f a)) (all (λ x. not (f x)) l) (rw t) (any-none f l (rw t at e)))
 
   pub pairwise-keep : (r : A → A → Bool) (g : A → Bool) (l : List A) → pairwise r l ≡ true → pairwise r (keep g l) ≡ true
   pairwise-keep r g [] e = refl
   pairwise-keep r g (a ∷ l) e =
       byCase (g a)
-      (λ t. rw t (both (all (r a) (keep g l)) (pairwise r (keep g l)) (all-keep (r a) g l (and-true (all (r a) l) (pairwise r l) e .0)) (pairwise-keep r g l (and-true (all (r a) l) (pairwise r l) e .1))))
+      (λ t. rw t (both (all (r a) (keep g l)) (pairwise r (keep g l)) (all-keep (r a) g l (and-true (all (r a) l) (pairwise r l) e .0))
+      (pairwise-keep r g l (and-true (all (r a) l) (pairwise r l) e .1))))
       (λ t. rw t (pairwise-keep r g l (and-true (all (r a) l) (pairwise r l) e .1)))
 
   pub pairwise-snoc : (r : A → A → Bool) (l : List A) (x : A) → pairwise r l ≡ true → all (λ a. r a x) l ≡ true → pairwise r (l ++ (x ∷ [])) ≡ true
@@ -104,7 +108,8 @@ module _ {A : Type 0} where
 
   pub once-map-keep : (g : A → ℕ) (f : A → Bool) (l : List A) → Once (map g l) → Once (map g (keep f l))
   once-map-keep g f [] o = tt
-  once-map-keep g f (a ∷ l) o = byCase (f a) (λ t. rw t (has-map-keep (g a) g f l (o .0), once-map-keep g f l (o .1))) (λ t. rw t (once-map-keep g f l (o .1)))
+  once-map-keep g f (a ∷ l) o =
+      byCase (f a) (λ t. rw t (has-map-keep (g a) g f l (o .0), once-map-keep g f l (o .1))) (λ t. rw t (once-map-keep g f l (o .1)))
 
   pub has-map-dropAt : (k : ℕ) (g : A → ℕ) (n : ℕ) (l : List A) → has k (map g l) ≡ false → has k (map g (dropAt n l)) ≡ false
   has-map-dropAt k g n [] e = refl
@@ -119,7 +124,8 @@ module _ {A : Type 0} where
   pub once-map-snoc : (g : A → ℕ) (x : A) (l : List A) → has (g x) (map g l) ≡ false → Once (map g l) → Once (map g (l ++ (x ∷ [])))
   once-map-snoc g x [] e o = (refl, tt)
   once-map-snoc g x (a ∷ l) e o =
-      byCase (eqb (g x) (g a)) (λ t. absurd (true≢false (rw t at e))) (λ t. (absent-last l (o .0) (eqb-sym (g x) (g a) t), once-map-snoc g x l (rw t at e) (o .1)))
+      byCase (eqb (g x) (g a)) (λ t. absurd (true≢false (rw t at e)))
+      (λ t. (absent-last l (o .0) (eqb-sym (g x) (g a) t), once-map-snoc g x l (rw t at e) (o .1)))
     where
       absent-last : (m : List A) → has (g a) (map g m) ≡ false → eqb (g a) (g x) ≡ false → has (g a) (map g (m ++ (x ∷ []))) ≡ false
       absent-last [] u v = rw v
@@ -132,25 +138,35 @@ all-append f (x ∷ a) b e =
     let r = all-append f a b (all-tail f x (a ++ b) e) in
     (both (f x) (all f a) (all-head f x (a ++ b) e) (r .0), r .1)
 
+later : (a b : ℕ) → a ≤ b → (b ≡ a → ⊥) → a + 1 ≤ b
+later a b u v = omega arith
+
 all-span : (f : ℕ → Bool) (n j k : ℕ) → all f (span j n) ≡ true → j ≤ k → k < j + n → f k ≡ true
 all-span f zero j k e l h = absurd (omega arith)
 all-span f (suc n) j k e l h =
     byCase (eqb k j)
     (λ t. rw (eqb-true k j t) (all-head f j (span (j + 1) n) e))
     (λ t. all-span f n (j + 1) k (all-tail f j (span (j + 1) n) e) (later j k l (eqb-false k j t)) (omega arith))
-  where
-    later : (a b : ℕ) → a ≤ b → (b ≡ a → ⊥) → a + 1 ≤ b
-    later a b u v = omega arith
 
 span-all : (f : ℕ → Bool) (n j : ℕ) → ((k : ℕ) → j ≤ k → k < j + n → f k ≡ true) → all f (span j n) ≡ true
 span-all f zero j h = refl
-span-all f (suc n) j h = both (f j) (all f (span (j + 1) n)) (h j (omega arith) (omega arith)) (span-all f n (j + 1) (λ k l m. h k (omega arith) (omega arith)))
+span-all f (suc n) j h =
+    both (f j) (all f (span (j + 1) n)) (h j (omega arith) (omega arith)) (span-all f n (j + 1) (λ k l m. h k (omega arith) (omega arith)))
 
 pub all-upto : (f : ℕ → Bool) (n k : ℕ) → all f (upto n) ≡ true → k < n → f k ≡ true
 all-upto f n k e h = all-span f n 0 k e (omega arith) (omega arith)
 
 pub upto-all : (f : ℕ → Bool) (n : ℕ) → ((k : ℕ) → k < n → f k ≡ true) → all f (upto n) ≡ true
 upto-all f n h = span-all f n 0 (λ k l m. h k (omega arith))
+
+any-span : (f : ℕ → Bool) (n j k : ℕ) → j ≤ k → k < j + n → f k ≡ true → any f (span j n) ≡ true
+any-span f zero j k l h e = absurd (omega arith)
+any-span f (suc n) j k l h e =
+    byCase (f j) (λ t. rw t)
+    (λ t. rw t (any-span f n (j + 1) k (later j k l (λ q. true≢false (sym e ∙ ap f q ∙ t))) (omega arith) e))
+
+pub any-upto : (f : ℕ → Bool) (n k : ℕ) → k < n → f k ≡ true → any f (upto n) ≡ true
+any-upto f n k h e = any-span f n 0 k (omega arith) (omega arith) e
 
 -- ── bounds as tests ──
 pub leb-le : {a b : ℕ} → a ≤ b → leb a b ≡ true

@@ -49,6 +49,7 @@ cache-dropAt s keys n [] h = tt
 cache-dropAt s keys zero (c ∷ l) h = h .1
 cache-dropAt s keys (suc n) (c ∷ l) h = (h .0, cache-dropAt s keys n l (h .1))
 
-pub cache-snoc : (s : Stock) (keys : ℕ → List Place) (l : List Cached) (c : Cached) → CachedRight s keys l → c .fields ≡ map s (keys (c .key)) → CachedRight s keys (l ++ (c ∷ []))
+pub cache-snoc : (s : Stock) (keys : ℕ → List Place) (l : List Cached) (c : Cached) → CachedRight s keys l → c .fields ≡ map s (keys (c .key))
+    → CachedRight s keys (l ++ (c ∷ []))
 cache-snoc s keys [] c h e = (e, tt)
 cache-snoc s keys (x ∷ l) c h e = (h .0, cache-snoc s keys l c (h .1) e)

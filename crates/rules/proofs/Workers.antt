@@ -11,9 +11,8 @@ use Rattle.rules.specs.Lists.{keep, all, isEmpty, override, has, without
 use Rattle.rules.specs.Limits.{bufferLimit, workerCount}
 use Rattle.rules.specs.Values.{Stock}
 use Rattle.rules.specs.Changes.{Update, follow}
-use Rattle.rules.specs.Tables.{Batch, isBuffered, oldest, isOldest, batchOf, unbuffer, pending, changesIn, Hand, empty, holds, full, handed, anyHand, Plant, removable}
+use Rattle.rules.specs.Tables.{Batch, numbersOf, isBuffered, oldest, isOldest, batchOf, unbuffer, pending, changesIn, Hand, empty, holds, full, handed, anyHand, Plant, removable}
 use Rattle.rules.specs.Effects.{bufferedAfter}
-use Rattle.rules.specs.Kept.{numbersOf}
 use Rattle.rules.specs.History.{changesOf, changesNothing, Committed, whole}
 use Rattle.rules.proofs.Laws.{byCase, follow-append, whole-append, pushed-room}
 use Rattle.rules.proofs.KeptParts.{NoRows, BufferKept}
@@ -25,18 +24,25 @@ owes-flat S l bs none-owed = refl
 owes-flat S l bs (skips {x = x} {l = k} q e o) =
     owes-flat S k bs o ∙ ap (λ z. follow z (whole k)) (sym e) ∙ sym (follow-append S (changesOf (x .page)) (whole k))
 owes-flat S l bs (owes {x = x} {l = k} {b = b} {bs = ds} d o) =
-    follow-append S (b .changes) (changesIn ds) ∙ ap (λ z. follow z (changesIn ds)) (d .does) ∙ owes-flat (follow S (changesOf (x .page))) k ds o ∙ sym (follow-append S (changesOf (x .page)) (whole k))
+    follow-append S (b .changes) (changesIn ds) ∙ ap (λ z. follow z (changesIn ds)) (d .does) ∙ owes-flat (follow S (changesOf (x .page))) k ds o
+    ∙ sym (follow-append S (changesOf (x .page)) (whole k))
 
-owes-snoc : (S : Stock) (l : List Committed) (bs : List Batch) (x : Committed) (b : Batch) → Owes S l bs → Owed (follow S (whole l)) x b → Owes S (l ++ (x ∷ [])) (bs ++ (b ∷ []))
+owes-snoc : (S : Stock) (l : List Committed) (bs : List Batch) (x : Committed) (b : Batch) → Owes S l bs → Owed (follow S (whole l)) x b
+    → Owes S (l ++ (x ∷ [])) (bs ++ (b ∷ []))
 owes-snoc S l bs x b none-owed d = owes d none-owed
-owes-snoc S l bs x b (skips {x = y} {l = k} q e o) d = skips q e (owes-snoc S k bs x b o (subst (λ z. Owed z x b) (follow-append S (changesOf (y .page)) (whole k) ∙ ap (λ z. follow z (whole k)) e) d))
-owes-snoc S l bs x b (owes {x = y} {l = k} {bs = ds} c o) d = owes c (owes-snoc _ k ds x b o (subst (λ z. Owed z x b) (follow-append S (changesOf (y .page)) (whole k)) d))
+owes-snoc S l bs x b (skips {x = y} {l = k} q e o) d = skips q e
+    (owes-snoc S k bs x b o (subst (λ z. Owed z x b) (follow-append S (changesOf (y .page)) (whole k) ∙ ap (λ z. follow z (whole k)) e) d))
+owes-snoc S l bs x b (owes {x = y} {l = k} {bs = ds} c o) d = owes c
+    (owes-snoc _ k ds x b o (subst (λ z. Owed z x b) (follow-append S (changesOf (y .page)) (whole k)) d))
 
-owes-skip : (S : Stock) (l : List Committed) (bs : List Batch) (x : Committed) → Owes S l bs → changesNothing (x .page) ≡ true → follow (follow S (whole l)) (changesOf (x .page)) ≡ follow S (whole l) → Owes S (l ++ (x ∷ [])) bs
+owes-skip : (S : Stock) (l : List Committed) (bs : List Batch) (x : Committed) → Owes S l bs → changesNothing (x .page) ≡ true
+    → follow (follow S (whole l)) (changesOf (x .page)) ≡ follow S (whole l) → Owes S (l ++ (x ∷ [])) bs
 owes-skip S l bs x none-owed q d = skips q d none-owed
 owes-skip S l bs x (skips {x = y} {l = k} r e o) q d =
-    skips r e (owes-skip S k bs x o q (subst (λ z. follow z (changesOf (x .page)) ≡ z) (follow-append S (changesOf (y .page)) (whole k) ∙ ap (λ z. follow z (whole k)) e) d))
-owes-skip S l bs x (owes {x = y} {l = k} {bs = ds} c o) q d = owes c (owes-skip _ k ds x o q (subst (λ z. follow z (changesOf (x .page)) ≡ z) (follow-append S (changesOf (y .page)) (whole k)) d))
+    skips r e (owes-skip S k bs x o q
+    (subst (λ z. follow z (changesOf (x .page)) ≡ z) (follow-append S (changesOf (y .page)) (whole k) ∙ ap (λ z. follow z (whole k)) e) d))
+owes-skip S l bs x (owes {x = y} {l = k} {bs = ds} c o) q d = owes c
+    (owes-skip _ k ds x o q (subst (λ z. follow z (changesOf (x .page)) ≡ z) (follow-append S (changesOf (y .page)) (whole k)) d))
 
 -- ── the value of a field: the store followed by what is pending is the whole history ──
 pub current-is-history : {start : Stock} {commits : List Committed} {buffered : List ℕ} {noted : ℕ → ℕ} {store : Stock} {buffer : List Batch} {rows : List ℕ} {hands : ℕ → Hand}
@@ -63,13 +69,24 @@ next-of S left b l (skips {x = x} {l = k} q e o) =
       rest = r .rest;
     }
 next-of S left b l (owes {x = x} {l = k} d o) =
-    record { front = x ∷ []; back = k; eq = refl; what = ap (follow S) (append-nil (changesOf (x .page))) ∙ sym (d .does); rest = subst (λ z. Owes z k l) (sym (d .does)) o }
+    record {
+      front =
+          x ∷ [];
+      back =
+          k;
+      eq = refl;
+      what = ap (follow S) (append-nil (changesOf (x .page))) ∙ sym (d .does);
+      rest = subst (λ z. Owes z k l) (sym (d .does)) o;
+    }
 
-pub workers-carry : {start : Stock} {commits : List Committed} {buffered : List ℕ} {noted : ℕ → ℕ} {store : Stock} (buffer : List Batch) {rows : List ℕ} {hands : ℕ → Hand} {next : ℕ}
-    (n : ℕ) → isOldest n buffer ≡ true → has n rows ≡ false → BufferKept store rows next buffer → Workers start commits buffered noted store buffer rows hands
+pub workers-carry : {start : Stock} {commits : List Committed} {buffered : List ℕ} {noted : ℕ → ℕ} {store : Stock}
+    (buffer : List Batch) {rows : List ℕ} {hands : ℕ → Hand} {next : ℕ}
+    (n : ℕ) → isOldest n buffer ≡ true → has n rows ≡ false → BufferKept store rows next buffer
+    → Workers start commits buffered noted store buffer rows hands
     → Workers start commits buffered noted (follow store (batchOf n buffer)) buffer (rows ++ (n ∷ [])) hands
 workers-carry [] n e h k i = absurd (true≢false (sym e))
-workers-carry {start} {commits} {buffered} {noted} {store} (b ∷ l) {rows} {hands} n e h k i = go (next-of store (i .left) b l (subst (λ z. Owes store (i .left) z) pending-all (i .owed)))
+workers-carry {start} {commits} {buffered} {noted} {store} (b ∷ l) {rows} {hands} n e h k i =
+    go (next-of store (i .left) b l (subst (λ z. Owes store (i .left) z) pending-all (i .owed)))
   where
     same : b .number ≡ n
     same = sym (eqb-true n (b .number) e)
@@ -89,7 +106,9 @@ workers-carry {start} {commits} {buffered} {noted} {store} (b ∷ l) {rows} {han
           done = i .done ++ r .front;
           left = r .back;
           split = rw (i .split, r .eq) (sym (append-assoc (i .done) (r .front) (r .back)));
-          stock = rw e (sym (r .what) ∙ rw (i .stock, whole-append (i .done) (r .front)) (sym (follow-append start (whole (i .done)) (whole (r .front)))));
+          stock =
+              rw e (sym (r .what) ∙ rw (i .stock, whole-append (i .done) (r .front))
+              (sym (follow-append start (whole (i .done)) (whole (r .front)))));
           owed = rw (e, same, has-last n rows, pending-free (rows ++ (n ∷ [])) l (noRows-snoc n rows l others (k .tail))) (r .rest);
           names = i .names;
           hand = i .hand;
@@ -97,7 +116,8 @@ workers-carry {start} {commits} {buffered} {noted} {store} (b ∷ l) {rows} {han
 
 module _ {start : Stock} {commits : List Committed} {buffered : List ℕ} {noted : ℕ → ℕ} {store : Stock} {buffer : List Batch} {rows : List ℕ} {hands : ℕ → Hand} where
   pub workers-hands : (noted′ : ℕ → ℕ) (hands′ : ℕ → Hand) → Workers start commits buffered noted store buffer rows hands
-      → ((v : ℕ) → v < workerCount → full (hands′ v) ≡ true → noted′ v ≡ handed (hands′ v)) → Workers start commits buffered noted′ store buffer rows hands′
+      → ((v : ℕ) → v < workerCount → full (hands′ v) ≡ true → noted′ v ≡ handed (hands′ v))
+      → Workers start commits buffered noted′ store buffer rows hands′
   workers-hands noted′ hands′ i h =
       record {
         done = i .done;
@@ -113,7 +133,8 @@ module _ {start : Stock} {commits : List Committed} {buffered : List ℕ} {noted
       → Workers start commits buffered (override noted w (oldest buffer)) store buffer rows (override hands w (holds (oldest buffer) false))
   workers-take w i = workers-hands _ _ i (λ v h. byCase (eqb v w) (λ t. rw t (λ g. refl)) (λ t. rw t (i .hand v h)))
 
-  pub workers-cut : (w : ℕ) → Workers start commits buffered noted store buffer rows hands → Workers start commits buffered noted store buffer rows (override hands w empty)
+  pub workers-cut : (w : ℕ) → Workers start commits buffered noted store buffer rows hands
+      → Workers start commits buffered noted store buffer rows (override hands w empty)
   workers-cut w i = workers-hands _ _ i (λ v h. byCase (eqb v w) (λ t. rw t (λ g. absurd (true≢false (sym g)))) (λ t. rw t (i .hand v h)))
 
   pub workers-reply : (w : ℕ) → w < workerCount → full (hands w) ≡ true → Workers start commits buffered noted store buffer rows hands
@@ -122,7 +143,8 @@ module _ {start : Stock} {commits : List Committed} {buffered : List ℕ} {noted
       workers-hands _ _ i (λ v h. byCase (eqb v w) (λ t. rw (t, eqb-true v w t) (λ g. i .hand w lt f)) (λ t. rw t (i .hand v h)))
 
 module _ {start : Stock} {commits : List Committed} {buffered : List ℕ} {noted : ℕ → ℕ} {store : Stock} {buffer : List Batch} {rows : List ℕ} {hands : ℕ → Hand} where
-  pub workers-delete : (n : ℕ) → has n rows ≡ true → Workers start commits buffered noted store buffer rows hands → Workers start commits (without n buffered) noted store (unbuffer n buffer) rows hands
+  pub workers-delete : (n : ℕ) → has n rows ≡ true → Workers start commits buffered noted store buffer rows hands
+      → Workers start commits (without n buffered) noted store (unbuffer n buffer) rows hands
   workers-delete n h i =
       record {
         done = i .done;
@@ -134,7 +156,8 @@ module _ {start : Stock} {commits : List Committed} {buffered : List ℕ} {noted
         hand = i .hand;
       }
 
-pub workers-sweep : {start : Stock} {commits : List Committed} {buffered : List ℕ} {noted : ℕ → ℕ} (p : Plant) (s : List ℕ) → all (λ n. has n (p .rows) && removable p n) s ≡ true
+pub workers-sweep : {start : Stock} {commits : List Committed} {buffered : List ℕ} {noted : ℕ → ℕ} (p : Plant) (s : List ℕ)
+    → all (λ n. has n (p .rows) && removable p n) s ≡ true
     → Workers start commits buffered noted (p .store) (p .buffer) (p .rows) (p .hands)
     → Workers start commits buffered noted (p .store) (p .buffer) (keep (λ n. not (has n s)) (p .rows)) (p .hands)
 workers-sweep p s a i =
@@ -143,18 +166,24 @@ workers-sweep p s a i =
       left = i .left;
       split = i .split;
       stock = i .stock;
-      owed = rw (pending-rows (p .rows) (keep (λ n. not (has n s)) (p .rows)) (p .buffer) (λ n e. stays n (inl (buffered-nums n (p .buffer) ∙ e)))) (i .owed);
+      owed =
+          rw (pending-rows (p .rows) (keep (λ n. not (has n s)) (p .rows)) (p .buffer) (λ n e. stays n (inl (buffered-nums n (p .buffer) ∙ e))))
+          (i .owed);
       names = i .names;
       hand = i .hand;
     }
   where
-    stays : (n : ℕ) → (isBuffered n (p .buffer) ≡ true) ⊎ (anyHand (p .hands) n ≡ true) → has n (keep (λ m. not (has m s)) (p .rows)) ≡ has n (p .rows)
+    stays : (n : ℕ) → (isBuffered n (p .buffer) ≡ true) ⊎ (anyHand (p .hands) n ≡ true)
+        → has n (keep (λ m. not (has m s)) (p .rows)) ≡ has n (p .rows)
     stays n h = has-kept s n (p .rows) (not-swept (λ m. has m (p .rows) && removable p m) n s a (not-held p n h))
 
 module _ {start : Stock} {commits : List Committed} {buffered : List ℕ} {noted : ℕ → ℕ} {store : Stock} {buffer : List Batch} {rows : List ℕ} {hands : ℕ → Hand} where
-  pub workers-commit : (x : Committed) (cs : List Update) → (isEmpty cs ≡ false → length buffer < bufferLimit) → has (x .number) rows ≡ false → changesNothing (x .page) ≡ isEmpty cs
-      → follow (follow start (whole commits)) cs ≡ follow (follow start (whole commits)) (changesOf (x .page)) → Workers start commits buffered noted store buffer rows hands
-      → Workers start (commits ++ (x ∷ [])) (cond (changesNothing (x .page)) buffered (buffered ++ (x .number ∷ []))) noted store (bufferedAfter (x .number) cs buffer) rows hands
+  pub workers-commit : (x : Committed) (cs : List Update) → (isEmpty cs ≡ false → length buffer < bufferLimit) → has (x .number) rows ≡ false
+      → changesNothing (x .page) ≡ isEmpty cs
+      → follow (follow start (whole commits)) cs ≡ follow (follow start (whole commits)) (changesOf (x .page))
+      → Workers start commits buffered noted store buffer rows hands
+      → Workers start (commits ++ (x ∷ [])) (cond (changesNothing (x .page)) buffered (buffered ++ (x .number ∷ []))) noted store
+      (bufferedAfter (x .number) cs buffer) rows hands
   workers-commit x cs r nr q d i = byCase (isEmpty cs) unchanged longer
     where
       split′ : commits ++ (x ∷ []) ≡ i .done ++ (i .left ++ (x ∷ []))
@@ -164,7 +193,9 @@ module _ {start : Stock} {commits : List Committed} {buffered : List ℕ} {noted
       at-now = rw (i .stock, ← follow-append, ← whole-append, ← i .split) refl
 
       Goal : Type 0
-      Goal = Workers start (commits ++ (x ∷ [])) (cond (changesNothing (x .page)) buffered (buffered ++ (x .number ∷ []))) noted store (bufferedAfter (x .number) cs buffer) rows hands
+      Goal =
+          Workers start (commits ++ (x ∷ [])) (cond (changesNothing (x .page)) buffered (buffered ++ (x .number ∷ []))) noted store
+          (bufferedAfter (x .number) cs buffer) rows hands
 
       nil-is : (l : List Update) → isEmpty l ≡ true → l ≡ []
       nil-is [] e = refl
@@ -178,7 +209,9 @@ module _ {start : Stock} {commits : List Committed} {buffered : List ℕ} {noted
             left = i .left ++ (x ∷ []);
             split = split′;
             stock = i .stock;
-            owed = owes-skip store (i .left) (pending rows buffer) x (i .owed) (q ∙ t) (rw at-now (sym d ∙ ap (follow (follow start (whole commits))) (nil-is cs t)));
+            owed =
+                owes-skip store (i .left) (pending rows buffer) x (i .owed) (q ∙ t)
+                (rw at-now (sym d ∙ ap (follow (follow start (whole commits))) (nil-is cs t)));
             names = i .names;
             hand = i .hand;
           }
@@ -192,7 +225,8 @@ module _ {start : Stock} {commits : List Committed} {buffered : List ℕ} {noted
             split = split′;
             stock = i .stock;
             owed = rw (pending-append rows buffer (record { number = x .number; changes = cs } ∷ []), nr)
-                (owes-snoc store (i .left) (pending rows buffer) x (record { number = x .number; changes = cs }) (i .owed) (record { number = refl; loud = q ∙ t; does = rw at-now d }));
+                (owes-snoc store (i .left) (pending rows buffer) x (record { number = x .number; changes = cs }) (i .owed)
+                (record { number = refl; loud = q ∙ t; does = rw at-now d }));
             names = nums-append buffer _ ∙ ap (λ z. z ++ (x .number ∷ [])) (i .names);
             hand = i .hand;
           }

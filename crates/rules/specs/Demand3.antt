@@ -11,7 +11,7 @@ use Rattle.rules.specs.Limits.{workerCount, leaseTicks, lastTick}
 use Rattle.rules.specs.Refusals.{nothingBuffered}
 use Rattle.rules.specs.Values.{Stock, showAll}
 use Rattle.rules.specs.Changes.{meets, follow}
-use Rattle.rules.specs.Tables.{Plant}
+use Rattle.rules.specs.Tables.{numbersOf, Plant}
 use Rattle.rules.specs.Calls.{arrives, fateNumber, Call, Advance, Take, Apply, Delete, Cut, Sweep, Store, done, Answer, refused, fine}
 use Rattle.rules.specs.History.{saw, wrote, Page, changesOf, changesNothing, Committed, History, whole, wholeHistory, Turn, World, does, turns, AllAllowed, initial}
 
@@ -113,7 +113,7 @@ Drains w =
 -- ── the claim ──
 pub record Holds (w : World) : Type 0 where
   pub firstPart : FirstPart (w .history) ((w .plant) .store)
-  pub buffer : map (λ b. b .number) ((w .plant) .buffer) ≡ (w .history) .buffered
+  pub buffer : numbersOf ((w .plant) .buffer) ≡ (w .history) .buffered
   pub commitOrder : CommitOrder (w .history)
   pub asAlone : AllRight ((w .history) .start) ((w .history) .commits)
   pub drains : Drains w

@@ -54,7 +54,8 @@ pub record Edges : Type 0 where
       ≡ (0 ∷ []) ∷ (0 ∷ 300 ∷ []) ∷ (0 ∷ 1 ∷ []) ∷ (0 ∷ 2 ∷ []) ∷ [])
       × ((plantAfter lostReply setup) .store origin ≡ number (pos 75))
   -- sessions 33 and 34 over 32 buffered: without changes the one commits, with a change the other is 15
-  pub m12 : lines (Commit (pos 34) ∷ changeOrigin 33 set (pos 1) ∷ Commit (pos 33) ∷ []) (plantAfter (changingSessions 32 1 ++ (Begin ∷ Begin ∷ [])) setup)
+  pub m12 : lines (Commit (pos 34) ∷ changeOrigin 33 set (pos 1) ∷ Commit (pos 33) ∷ [])
+      (plantAfter (changingSessions 32 1 ++ (Begin ∷ Begin ∷ [])) setup)
       ≡ (0 ∷ 32 ∷ []) ∷ (0 ∷ 1 ∷ []) ∷ (15 ∷ []) ∷ []
 
 -- by computing

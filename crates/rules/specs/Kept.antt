@@ -9,7 +9,7 @@ use Rattle.rules.specs.Lists.{all, pairwise, sameList, isEmpty, has, upt
 use Rattle.rules.specs.Limits.{fieldCount, keyCount, placeLimit, cacheLimit, slotLimit, changeLimit, bufferLimit, rowLimit, workerCount, leaseTicks, sessionTicks, lastTick, firstSession, lastSession}
 use Rattle.rules.specs.Values.{Place, inRange, twice, absent, fieldOk, Stock, sameField}
 use Rattle.rules.specs.Changes.{run, accepts, setsIt, updateOk}
-use Rattle.rules.specs.Tables.{Lease, free, shared, exclusive, isHeld, isExclusive, documents, Session, Slot, Cached, Batch, isBuffered, isOldest, pending, changesIn, Hand, empty, holds, Queue, idle, leased, Plant}
+use Rattle.rules.specs.Tables.{Lease, free, shared, exclusive, isHeld, isExclusive, documents, Session, Slot, Cached, Batch, numbersOf, isBuffered, isOldest, pending, changesIn, Hand, empty, holds, Queue, idle, leased, Plant}
 use Rattle.rules.specs.Reading.{current}
 
 -- ── the store ──
@@ -93,10 +93,6 @@ abbrev pub isFresh : List Batch → List ℕ → ℕ → Bool
 isFresh buffer rows n = not (isBuffered n buffer) && not (has n rows)
 
 -- ── the buffer and the rows ──
-abbrev pub numbersOf : List Batch → List ℕ
-numbersOf [] = []
-numbersOf (b ∷ l) = b .number ∷ numbersOf l
-
 abbrev pub batchOk : ℕ → Batch → Bool
 batchOk next b = goodNumber next (b .number) && not (isEmpty (b .changes)) && leb (length (b .changes)) changeLimit && all updateOk (b .changes)
 

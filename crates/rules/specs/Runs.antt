@@ -61,13 +61,15 @@ pub record Runs : Type 0 where
       ∷ no 1 ∷ no 1 ∷ no 1 ∷ no 1 ∷ no 1 ∷ yes
       ∷ no 1 ∷ no 1 ∷ []
   -- 2: numbers that no session with a slot has, in no range of 1
-  pub noSession : lines (Commit (pos 0) ∷ Commit (negsuc 0) ∷ Report (pos 4294967296) ∷ Begin ∷ Report (negsuc 0) ∷ Report (pos 1) ∷ Abandon (pos 1) ∷ Report (pos 1) ∷ []) setup
+  pub noSession : lines (Commit (pos 0) ∷ Commit (negsuc 0) ∷ Report (pos 4294967296) ∷ Begin ∷ Report (negsuc 0) ∷ Report (pos 1) ∷ Abandon (pos 1)
+      ∷ Report (pos 1) ∷ []) setup
       ≡ no 2 ∷ no 2 ∷ no 2 ∷ says 1 ∷ no 2 ∷ (0 ∷ 0 ∷ 0 ∷ 0 ∷ []) ∷ yes ∷ no 2 ∷ []
   -- 3: a session lapses at 1,000; its slot is freed by its next call
   pub lapsed : lines (Begin ∷ Advance (pos 999) ∷ Report (pos 1) ∷ Advance (pos 1) ∷ Report (pos 1) ∷ Report (pos 1) ∷ []) setup
       ≡ says 1 ∷ says 999 ∷ (0 ∷ 0 ∷ 0 ∷ 0 ∷ []) ∷ says 1000 ∷ no 3 ∷ no 2 ∷ []
   -- 4: exclusive over another's exclusive; another document is free
-  pub hindered : lines (Begin ∷ Begin ∷ edit 1 5 0 set (pos 1) ∷ edit 2 6 0 set (pos 1) ∷ edit 2 5 1 set (pos 1) ∷ Report (pos 2) ∷ Report (pos 1) ∷ []) setup
+  pub hindered : lines (Begin ∷ Begin ∷ edit 1 5 0 set (pos 1) ∷ edit 2 6 0 set (pos 1) ∷ edit 2 5 1 set (pos 1) ∷ Report (pos 2) ∷ Report (pos 1)
+      ∷ []) setup
       ≡ says 1 ∷ says 2 ∷ says 1 ∷ says 1 ∷ no 4 ∷ no 2 ∷ (0 ∷ 0 ∷ 1 ∷ 1 ∷ []) ∷ []
   -- 5: eight changes
   pub nine : lines (Begin ∷ sets1 9) setup
@@ -75,7 +77,8 @@ pub record Runs : Type 0 where
   -- 6, 7, 8: wrong kind, a seventh member, a sum outside 32 bits; the session goes on
   pub unfit : lines
       (load 0 0 set (pos 7) ∷ load 0 0 push (pos 1) ∷ load 0 1 add (pos 1) ∷ load 0 1 inc (pos 1) ∷ load 0 2 set highest ∷ load 0 2 inc (pos 1)
-      ∷ Begin ∷ edit 1 0 0 pull (pos 1) ∷ edit 1 0 1 inc (pos 1) ∷ edit 1 0 2 inc (pos 1) ∷ edit 1 0 2 inc (negsuc 0) ∷ edit 1 0 2 inc (pos 1) ∷ []) setup
+      ∷ Begin ∷ edit 1 0 0 pull (pos 1) ∷ edit 1 0 1 inc (pos 1) ∷ edit 1 0 2 inc (pos 1) ∷ edit 1 0 2 inc (negsuc 0) ∷ edit 1 0 2 inc (pos 1)
+      ∷ []) setup
       ≡ yes ∷ no 6 ∷ yes ∷ no 6 ∷ yes ∷ no 8
       ∷ says 1 ∷ no 6 ∷ no 6 ∷ no 8 ∷ says 1 ∷ says 2 ∷ []
   pub seven : lines
@@ -85,7 +88,8 @@ pub record Runs : Type 0 where
       ∷ no 7 ∷ yes ∷ no 7 ∷ yes ∷ yes ∷ []
   -- 9 and 22: key undefined, too few words lent
   pub undefined : lines (Begin ∷ Read (pos 1) (pos 0) ∷ []) setup ≡ says 1 ∷ no 9 ∷ []
-  pub words : (step (Read (pos 1) (pos 0)) (replicate 7 (pos 0)) (record { gives = 0; swept = [] }) (plantAfter (mapOrigin ∷ Begin ∷ []) setup)) .answer
+  pub words : (step (Read (pos 1) (pos 0)) (replicate 7 (pos 0)) (record { gives = 0; swept = [] })
+      (plantAfter (mapOrigin ∷ Begin ∷ []) setup)) .answer
       ≡ refused fewWords
   -- 10: eight sessions, none doomed; with one doomed the lowest gives its slot, and is gone
   pub slots : lines (begins 9 ++ (Advance (pos 1000) ∷ Begin ∷ Report (pos 1) ∷ Report (pos 2) ∷ [])) setup
@@ -113,7 +117,8 @@ pub record Runs : Type 0 where
       ≡ says 1 ∷ says 1 ∷ says 1 ∷ says 1 ∷ says 0 ∷ says 300 ∷ says 1 ∷ says 2 ∷ says 1
       ∷ says 2 ∷ says 0 ∷ no 18 ∷ []
   pub nobodys : lines
-      (setting 1 (pos 5) ++ (Take (pos 0) ∷ Cut (pos 0) ∷ Take (pos 0) ∷ Advance (pos 299) ∷ Take (pos 1) ∷ Advance (pos 1) ∷ Take (pos 1) ∷ [])) setup
+      (setting 1 (pos 5) ++ (Take (pos 0) ∷ Cut (pos 0) ∷ Take (pos 0) ∷ Advance (pos 299) ∷ Take (pos 1) ∷ Advance (pos 1) ∷ Take (pos 1)
+      ∷ [])) setup
       ≡ says 1 ∷ says 1 ∷ says 1 ∷ says 1 ∷ yes ∷ no 16 ∷ says 299 ∷ no 16 ∷ says 300 ∷ says 1 ∷ []
   -- two sessions drained by one worker in eight calls, in commit order
   pub drained : lines
@@ -121,49 +126,59 @@ pub record Runs : Type 0 where
       ≡ says 1 ∷ says 1 ∷ says 1 ∷ says 2 ∷ says 1 ∷ says 2 ∷ says 1 ∷ says 0 ∷ says 1 ∷ says 1 ∷ says 2 ∷ []
   -- a row may be swept once its session is neither buffered nor in a hand
   pub sweeping : (removable (plantAfter (setting 1 (pos 5) ++ (Take (pos 0) ∷ apply 0 arrives ∷ [])) setup) 1 ≡ false)
-      × (removable (plantAfter (setting 1 (pos 5) ++ (Take (pos 0) ∷ apply 0 lost ∷ Advance (pos 300) ∷ Take (pos 1) ∷ apply 1 arrives ∷ Delete (pos 1) ∷ [])) setup) 1 ≡ false)
+      × (removable (plantAfter (setting 1 (pos 5) ++
+      (Take (pos 0) ∷ apply 0 lost ∷ Advance (pos 300) ∷ Take (pos 1) ∷ apply 1 arrives ∷ Delete (pos 1) ∷ [])) setup) 1 ≡ false)
       × (removable (plantAfter (setting 1 (pos 5) ++ (Take (pos 0) ∷ apply 0 arrives ∷ Delete (pos 0) ∷ [])) setup) 1 ≡ true)
       × (sweeps (1 ∷ []) (plantAfter (setting 1 (pos 5) ++ (Take (pos 0) ∷ apply 0 arrives ∷ Delete (pos 0) ∷ [])) setup) ≡ says 1)
   -- 19: 48 rows and this session has none; with fate 1 and 2 that is no word
-  pub rows : (lines (apply 0 unreached ∷ apply 0 lost ∷ apply 0 arrives ∷ []) (withRowsFrom 2 48 (plantAfter (setting 1 (pos 5) ++ (Take (pos 0) ∷ [])) setup))
+  pub rows : (lines (apply 0 unreached ∷ apply 0 lost ∷ apply 0 arrives ∷ [])
+      (withRowsFrom 2 48 (plantAfter (setting 1 (pos 5) ++ (Take (pos 0) ∷ [])) setup))
       ≡ says 0 ∷ says 0 ∷ no 19 ∷ [])
       × (lines (apply 0 arrives ∷ []) (withRowsFrom 2 47 (plantAfter (setting 1 (pos 5) ++ (Take (pos 0) ∷ [])) setup)) ≡ says 1 ∷ [])
       × (lines (apply 0 arrives ∷ []) (withRowsFrom 1 48 (plantAfter (setting 1 (pos 5) ++ (Take (pos 0) ∷ [])) setup)) ≡ says 2 ∷ [])
   -- 20: the store away: set and unset need no known field; a cached key, a buffered or own set makes one
   pub away : lines
-      (near false ∷ load 0 0 set (pos 1) ∷ Sweep ∷ mapOrigin ∷ mapOne 1 (pair 0 1) ∷ Begin ∷ changeOrigin 1 inc (pos 1) ∷ readOrigin 1 ∷ changeOrigin 1 set (pos 4)
-      ∷ changeOrigin 1 inc (pos 1) ∷ readOrigin 1 ∷ Read (pos 1) (pos 1) ∷ Commit (pos 1) ∷ Take (pos 0) ∷ apply 0 arrives ∷ Begin ∷ readOrigin 2 ∷ readOrigin 2
+      (near false ∷ load 0 0 set (pos 1) ∷ Sweep ∷ mapOrigin ∷ mapOne 1 (pair 0 1) ∷ Begin ∷ changeOrigin 1 inc (pos 1) ∷ readOrigin 1
+      ∷ changeOrigin 1 set (pos 4)
+      ∷ changeOrigin 1 inc (pos 1) ∷ readOrigin 1 ∷ Read (pos 1) (pos 1) ∷ Commit (pos 1) ∷ Take (pos 0) ∷ apply 0 arrives ∷ Begin ∷ readOrigin 2
+      ∷ readOrigin 2
       ∷ Report (pos 2) ∷ []) setup
       ≡ yes ∷ no 20 ∷ no 20 ∷ yes ∷ yes ∷ says 1 ∷ no 20 ∷ no 20 ∷ says 1
       ∷ says 2 ∷ says 2 ∷ no 20 ∷ says 1 ∷ says 1 ∷ no 20 ∷ says 2 ∷ says 1 ∷ says 0
       ∷ (0 ∷ 1 ∷ 0 ∷ 0 ∷ []) ∷ []
   -- 21: the clock ends at 99,999,999,999
-  pub clock : lines (Advance (pos 1) ∷ Advance (pos 1) ∷ Advance (pos 0) ∷ []) (withClock 99999999998 setup) ≡ says 99999999999 ∷ no 21 ∷ says 99999999999 ∷ []
+  pub clock : lines (Advance (pos 1) ∷ Advance (pos 1) ∷ Advance (pos 0) ∷ []) (withClock 99999999998 setup) ≡ says 99999999999 ∷ no 21
+      ∷ says 99999999999 ∷ []
   -- marks: worked out, cached, own change; a lapse drops the key
   pub marks : lines
-      (mapOrigin ∷ Begin ∷ readOrigin 1 ∷ readOrigin 1 ∷ changeOrigin 1 set (pos 4) ∷ readOrigin 1 ∷ Commit (pos 1) ∷ Begin ∷ readOrigin 2 ∷ Advance (pos 300)
+      (mapOrigin ∷ Begin ∷ readOrigin 1 ∷ readOrigin 1 ∷ changeOrigin 1 set (pos 4) ∷ readOrigin 1 ∷ Commit (pos 1) ∷ Begin ∷ readOrigin 2 ∷ Advance
+      (pos 300)
       ∷ Begin ∷ readOrigin 3 ∷ []) setup
       ≡ yes ∷ says 1 ∷ says 1 ∷ says 0 ∷ says 1 ∷ says 2 ∷ says 1 ∷ says 2 ∷ says 0 ∷ says 300
       ∷ says 3 ∷ says 1 ∷ []
   -- a held lease keeps its grant; shared to exclusive is a fresh one
   pub grants : lines
-      (mapOrigin ∷ Begin ∷ readOrigin 1 ∷ Advance (pos 200) ∷ readOrigin 1 ∷ changeOrigin 1 set (pos 4) ∷ Advance (pos 299) ∷ changeOrigin 1 set (pos 5)
+      (mapOrigin ∷ Begin ∷ readOrigin 1 ∷ Advance (pos 200) ∷ readOrigin 1 ∷ changeOrigin 1 set (pos 4) ∷ Advance (pos 299) ∷ changeOrigin 1 set
+      (pos 5)
       ∷ Report (pos 1) ∷ Advance (pos 1) ∷ Report (pos 1) ∷ []) setup
       ≡ yes ∷ says 1 ∷ says 1 ∷ says 200 ∷ says 0 ∷ says 1 ∷ says 499 ∷ says 2
       ∷ (0 ∷ 0 ∷ 1 ∷ 2 ∷ []) ∷ says 500 ∷ no 3 ∷ []
   -- eight words for each place, in the key's order, past the buffer and after the own changes; the words past these stay
   pub shown : wordsLeft 2 0 (replicate 17 (pos 9))
-      (load 1 0 push (pos 4) ∷ load 1 0 push (pos 7) ∷ mapTwo 0 (pair 1 0) zeros ∷ Begin ∷ edit 1 1 0 push (negsuc 2) ∷ Commit (pos 1) ∷ Begin ∷ edit 2 0 0 inc (pos 3) ∷ [])
+      (load 1 0 push (pos 4) ∷ load 1 0 push (pos 7) ∷ mapTwo 0 (pair 1 0) zeros ∷ Begin ∷ edit 1 1 0 push (negsuc 2) ∷ Commit (pos 1) ∷ Begin
+      ∷ edit 2 0 0 inc (pos 3) ∷ [])
       ≡ pos 2 ∷ pos 3 ∷ pos 4 ∷ pos 7 ∷ negsuc 2 ∷ pos 0 ∷ pos 0 ∷ pos 0
       ∷ pos 1 ∷ pos 1 ∷ pos 3 ∷ pos 0 ∷ pos 0 ∷ pos 0 ∷ pos 0 ∷ pos 0
       ∷ pos 9 ∷ []
   -- the calls by their numbers
   pub numbers : map callNumber
-      (load100 ∷ mapOrigin ∷ Begin ∷ readOrigin 1 ∷ changeOrigin 1 set (pos 1) ∷ Commit (pos 1) ∷ Abandon (pos 1) ∷ Advance (pos 0) ∷ Take (pos 0) ∷ apply 0 arrives
+      (load100 ∷ mapOrigin ∷ Begin ∷ readOrigin 1 ∷ changeOrigin 1 set (pos 1) ∷ Commit (pos 1) ∷ Abandon (pos 1) ∷ Advance (pos 0) ∷ Take (pos 0)
+      ∷ apply 0 arrives
       ∷ Delete (pos 0) ∷ Cut (pos 0) ∷ Sweep ∷ near true ∷ Report (pos 1) ∷ [])
       ≡ span 1 15
   -- the rules of the plant compute: they hold with a session open, cached, buffered, applied and in a hand, and not of a row that no session left
-  pub computes : (kept (plantAfter (mapOrigin ∷ setting 1 (pos 5) ++ (Take (pos 0) ∷ apply 0 lost ∷ Begin ∷ readOrigin 2 ∷ changeOrigin 2 inc (pos 1) ∷ [])) setup) ≡ true)
+  pub computes : (kept (plantAfter
+      (mapOrigin ∷ setting 1 (pos 5) ++ (Take (pos 0) ∷ apply 0 lost ∷ Begin ∷ readOrigin 2 ∷ changeOrigin 2 inc (pos 1) ∷ [])) setup) ≡ true)
       × (kept (withRows (1 ∷ []) setup) ≡ false)
 
 -- by computing

@@ -90,6 +90,9 @@ pub record Batch : Type 0 where
   pub number : ℕ
   pub changes : List Update
 
+abbrev pub numbersOf : List Batch → List ℕ
+numbersOf = map (λ b. b .number)
+
 abbrev pub isBuffered : ℕ → List Batch → Bool
 isBuffered n = any (λ b. eqb n (b .number))
 
