@@ -9,6 +9,7 @@ use lib.Dec.{eqb, leb, ltb}
 use borrow.Author.Tests.{leb-true, ltb-true}
 use Rattle.rules.specs.Lists.{has}
 use Rattle.rules.specs.Limits.{leaseTicks}
+use Rattle.rules.specs.Refusals.{nothingBuffered}
 use Rattle.rules.specs.Values.{Stock}
 use Rattle.rules.specs.Changes.{follow}
 use Rattle.rules.specs.Tables.{Batch, numbersOf, pending, changesIn, Queue, idle, leased, isLeased, Plant}

@@ -11,7 +11,7 @@ use borrow.Author.Tests.{eq-eqb, eqb-false, eqb-true, lt-ltb, ltb-true, ne-eqb}
 use Rattle.rules.specs.Lists.{pushed, isEmpty}
 use Rattle.rules.specs.Refusals.{Refusal, _⇒_, first}
 use Rattle.rules.specs.Values.{below, natOf, Place, samePlace, Field, Stock}
-use Rattle.rules.specs.Changes.{Update, after, run, follow}
+use Rattle.rules.specs.Changes.{Update, fieldAfter, run, follow}
 use Rattle.rules.specs.History.{saw, wrote, Page, changesOf, Committed, whole}
 use Rattle.rules.specs.Demand3.{Right, AllRight}
 
@@ -70,7 +70,7 @@ below-is (negsuc k) n e = absurd (true≢false (sym e))
 -- ── stocks ──
 pub run-append : (a b : List Update) (p : Place) (f : Field) → run (a ++ b) p f ≡ run b p (run a p f)
 run-append [] b p f = refl
-run-append (c ∷ a) b p f = run-append a b p (after p f c)
+run-append (c ∷ a) b p f = run-append a b p (fieldAfter p f c)
 
 pub follow-append : (s : Stock) (a b : List Update) → follow s (a ++ b) ≡ follow (follow s a) b
 follow-append s a b = fun-ext (λ p. run-append a b p (s p))

@@ -5,7 +5,7 @@ use mathlib.Core.Bool.{_&&_, cond, false, true}
 use mathlib.Core.List.{List, [], _++_, _∷_, map}
 use lib.Dec.{eqb}
 use Rattle.rules.specs.Values.{Place, samePlace, Field, Stock, showAll}
-use Rattle.rules.specs.Changes.{Update, meets, updated, after, run, follow}
+use Rattle.rules.specs.Changes.{Update, meets, updated, fieldAfter, run, follow}
 use Rattle.rules.specs.Tables.{Lease, free, shared, exclusive, isHeld, isExclusive}
 use Rattle.rules.specs.History.{saw, wrote, Page, changesOf}
 use Rattle.rules.specs.Demand3.{Right}
@@ -24,7 +24,7 @@ map-agree lease s t [] a h = refl
 map-agree lease s t (q ∷ qs) a h = ap₂ _∷_ (a q (h .0)) (map-agree lease s t qs a (h .1))
 
 pub right-agree : (lease : ℕ → Lease) (s t : Stock) (page : Page) → Agree lease s t → Held lease page → Right s page → Right t page
-unfolding after
+unfolding fieldAfter
 right-agree lease s t [] a h r = tt
 right-agree lease s t (saw qs ws ∷ l) a h r = (r .0 ∙ ap showAll (map-agree lease s t qs a (h .0)), right-agree lease s t l a (h .1) (r .1))
 right-agree lease s t (wrote c ∷ l) a h r = (
@@ -35,7 +35,7 @@ right-agree lease s t (wrote c ∷ l) a h r = (
 -- changes of documents that are held exclusively leave the other documents
 pub run-apart : (lease : ℕ → Lease) (page : Page) (q : Place) (f : Field) → Held lease page
     → ((d : ℕ) → isExclusive (lease d) ≡ true → eqb (q .document) d ≡ false) → run (changesOf page) q f ≡ f
-unfolding after
+unfolding fieldAfter
 run-apart lease [] q f h z = refl
 run-apart lease (saw qs ws ∷ l) q f h z = run-apart lease l q f (h .1) z
 run-apart lease (wrote c ∷ l) q f h z =
@@ -45,7 +45,7 @@ run-apart lease (wrote c ∷ l) q f h z =
 -- the same of a list of changes
 pub run-off : (lease : ℕ → Lease) (cs : List Update) (q : Place) (f : Field) → AllEx lease cs
     → ((d : ℕ) → isExclusive (lease d) ≡ true → eqb (q .document) d ≡ false) → run cs q f ≡ f
-unfolding after
+unfolding fieldAfter
 run-off lease [] q f h z = refl
 run-off lease (c ∷ l) q f h z =
     ap (λ b. run l q (cond (b && eqb (q .field) (c .at .field)) (updated c f) f)) (z (c .at .document) (h .0)) ∙ run-off lease l q f (h .1) z

@@ -81,12 +81,12 @@ unfoldable pub updated : Update → Field → Field
 updated c f = fieldOf (change (c .kind) (c .value) f) f
 
 -- a place's field after a change, and after changes, from its field before
-unfoldable pub after : Place → Field → Update → Field
-after p f c = cond (samePlace p (c .at)) (updated c f) f
+unfoldable pub fieldAfter : Place → Field → Update → Field
+fieldAfter p f c = cond (samePlace p (c .at)) (updated c f) f
 
 abbrev pub run : List Update → Place → Field → Field
 run [] p f = f
-run (c ∷ cs) p f = run cs p (after p f c)
+run (c ∷ cs) p f = run cs p (fieldAfter p f c)
 
 -- a stock followed by changes
 abbrev pub follow : Stock → List Update → Stock

@@ -1,7 +1,8 @@
--- Runs of calls and their answer lines, for the tables of worked examples.
+-- Runs of calls with their answer lines, for the tables of worked examples.
 use Prim.Native.Nat.{_*_, ℕ}
+use mathlib.Core.Path.{_≡_}
 use mathlib.Core.Bool.{Bool}
-use mathlib.Core.List.{List, [], _∷_}
+use mathlib.Core.List.{List, [], _∷_, map}
 use lib.ListN.{replicate}
 use lib.IntN.{pos, ℤ}
 use Rattle.rules.specs.Lists.{bit}
@@ -10,50 +11,19 @@ use Rattle.rules.specs.Refusals.{refusalNumber}
 use Rattle.rules.specs.Values.{Place}
 use Rattle.rules.specs.Changes.{Kind, set, kindNumber}
 use Rattle.rules.specs.Tables.{Plant}
-use Rattle.rules.specs.Calls.{Pair, Pairs, Fate, fateNumber, Call, Load, Map, Read, Change, Apply, Store, Answer, refused, fine, Result}
+use Rattle.rules.specs.Calls.{Pair, Fate, fateNumber, Call, Load, Map, Begin, Read, Change, Commit, Advance, Take, Apply, Delete, Cut, Store, Report, Answer, refused, fine, Result}
 use Rattle.rules.specs.Step.{step}
 
--- ── a run and its answer lines ──
--- an answer line: the refusal or 0, then the numbers
-abbrev pub line : Answer → List ℕ
-line (refused r) = refusalNumber r ∷ []
-line (fine ns) = 0 ∷ ns
+-- ── a call and its answer line ──
+pub record Line : Type 0 where
+  pub call : Call
+  pub answer : List ℕ
 
--- no choice is made in these runs; the longest key's words are lent
-abbrev pub alone : Call → Plant → Result
-alone c p = step c (replicate (wordsPerField * placeLimit) (pos 0)) (record { gives = 0; swept = [] }) p
+infix 80 _gets_
+abbrev pub _gets_ : Call → List ℕ → Line
+c gets l = record { call = c; answer = l }
 
-abbrev pub lines : List Call → Plant → List (List ℕ)
-lines [] p = []
-lines (c ∷ cs) p = line ((alone c p) .answer) ∷ lines cs ((alone c p) .plant)
-
-abbrev pub plantAfter : List Call → Plant → Plant
-plantAfter [] p = p
-plantAfter (c ∷ cs) p = plantAfter cs ((alone c p) .plant)
-
--- the place of the runs: document 0, field 0, shown by key 0
-abbrev pub origin : Place
-origin = record { document = 0; field = 0 }
-
-abbrev pub zeros : Pair
-zeros = record { document = pos 0; field = pos 0 }
-
-abbrev pub fourZeros : Pairs
-fourZeros = record { first = zeros; second = zeros; third = zeros; fourth = zeros }
-
-abbrev pub mapOrigin : Call
-mapOrigin = Map (pos 0) (pos 1) fourZeros
-
-abbrev pub readOrigin : ℕ → Call
-readOrigin s = Read (pos s) (pos 0)
-
-abbrev pub changeOrigin : ℕ → Kind → ℤ → Call
-changeOrigin s k v = Change (pos s) (pos 0) (pos 0) (pos (kindNumber k)) v
-
-abbrev pub load100 : Call
-load100 = Load (pos 0) (pos 0) (pos (kindNumber set)) (pos 100)
-
--- ── answer lines: no number, one number, a refusal ──
+-- no number, one number, a refusal
 abbrev pub yes : List ℕ
 yes = 0 ∷ []
 
@@ -63,12 +33,37 @@ says n = 0 ∷ n ∷ []
 abbrev pub no : ℕ → List ℕ
 no n = n ∷ []
 
+-- the refusal or 0, then the numbers
+abbrev pub lineOf : Answer → List ℕ
+lineOf (refused r) = refusalNumber r ∷ []
+lineOf (fine ns) = 0 ∷ ns
+
+-- ── runs ──
+-- no choice is made in these runs; the longest key's words are lent
+abbrev pub alone : Call → Plant → Result
+alone c p = step c (replicate (wordsPerField * placeLimit) (pos 0)) (record { gives = 0; swept = [] }) p
+
+abbrev pub answers : List Line → Plant → List (List ℕ)
+answers [] p = []
+answers (l ∷ ls) p = lineOf ((alone (l .call) p) .answer) ∷ answers ls ((alone (l .call) p) .plant)
+
+abbrev pub after : List Line → Plant → Plant
+after [] p = p
+after (l ∷ ls) p = after ls ((alone (l .call) p) .plant)
+
+-- each call of the run gets its answer
+abbrev pub Plays : Plant → List Line → Type 0
+Plays p ls = answers ls p ≡ map (λ l. l .answer) ls
+
 -- ── calls by natural numbers ──
 abbrev pub load : ℕ → ℕ → Kind → ℤ → Call
 load d f k v = Load (pos d) (pos f) (pos (kindNumber k)) v
 
 abbrev pub pair : ℕ → ℕ → Pair
 pair d f = record { document = pos d; field = pos f }
+
+abbrev pub zeros : Pair
+zeros = pair 0 0
 
 -- a key of one place, and of two
 abbrev pub mapOne : ℕ → Pair → Call
@@ -77,11 +72,46 @@ mapOne k a = Map (pos k) (pos 1) (record { first = a; second = zeros; third = ze
 abbrev pub mapTwo : ℕ → Pair → Pair → Call
 mapTwo k a b = Map (pos k) (pos 2) (record { first = a; second = b; third = zeros; fourth = zeros })
 
+abbrev pub read : ℕ → ℕ → Call
+read s k = Read (pos s) (pos k)
+
 abbrev pub edit : ℕ → ℕ → ℕ → Kind → ℤ → Call
 edit s d f k v = Change (pos s) (pos d) (pos f) (pos (kindNumber k)) v
+
+abbrev pub commit : ℕ → Call
+commit s = Commit (pos s)
+
+abbrev pub report : ℕ → Call
+report s = Report (pos s)
+
+abbrev pub advance : ℕ → Call
+advance n = Advance (pos n)
+
+abbrev pub takes : ℕ → Call
+takes w = Take (pos w)
 
 abbrev pub apply : ℕ → Fate → Call
 apply w fate = Apply (pos w) (pos (fateNumber fate))
 
+abbrev pub delete : ℕ → Call
+delete w = Delete (pos w)
+
+abbrev pub cuts : ℕ → Call
+cuts w = Cut (pos w)
+
 abbrev pub near : Bool → Call
 near b = Store (pos (bit b))
+
+-- ── the place of most runs: document 0, field 0, shown by key 0 ──
+abbrev pub origin : Place
+origin = record { document = 0; field = 0 }
+
+abbrev pub mapOrigin : Call
+mapOrigin = mapOne 0 zeros
+
+abbrev pub editOrigin : ℕ → Kind → ℤ → Call
+editOrigin s k v = edit s 0 0 k v
+
+-- session n sets the origin and commits, the b-th buffered
+abbrev pub setting : ℕ → ℕ → List Line
+setting n b = Begin gets says n ∷ editOrigin n set (pos 5) gets says 1 ∷ commit n gets says b ∷ []
