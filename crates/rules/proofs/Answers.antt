@@ -151,7 +151,7 @@ counts-accepted : (c : Call) (lent : List ℤ) (pick : Pick) (p : Plant) → Non
 unfolding accepted conditions begun advanced taken deleted
 counts-accepted (Load d f kd v) lent pick p m al k = refl
 counts-accepted (Map ky n qs) lent pick p m al k = refl
-counts-accepted Begin lent pick p m al k = (p .next, refl, begun-slot p (not-met _ _ (m .1 .0)) k)
+counts-accepted Begin lent pick p m al k = (refl, refl, begun-slot p (not-met _ _ (m .1 .0)) k)
 counts-accepted (Read s ky) lent pick p m al k = refl
 counts-accepted (Change s d f kd v) lent pick p m al k =
     ap (λ n. n ∷ []) (sym (changed-length (natOf s) (updateOf (placeOf d f) (natOf kd) v) p
@@ -161,10 +161,9 @@ counts-accepted (Abandon s) lent pick p m al k = refl
 counts-accepted (Advance n) lent pick p m al k = refl
 counts-accepted (Take w) lent pick p m al k = (oldest (p .buffer), refl, rw (self (natOf w)))
 counts-accepted (Apply w fate) lent pick p m al k = refl
-counts-accepted (Delete w) lent pick p m al k =
-    ap (λ n. n ∷ []) (omega (arith, deleted-count (handed (p .hands (natOf w))) (p .buffer) (k .buffer .once)))
+counts-accepted (Delete w) lent pick p m al k = (_, refl, deleted-count (handed (p .hands (natOf w))) (p .buffer) (k .buffer .once))
 counts-accepted (Cut w) lent pick p m al k = refl
-counts-accepted Sweep lent pick p m al k = ap (λ n. n ∷ []) (omega (arith, swept-count p pick k al))
+counts-accepted Sweep lent pick p m al k = (_, refl, swept-count p pick k al)
 counts-accepted (Store n) lent pick p m al k = refl
 counts-accepted (Report s) lent pick p m al k = refl
 

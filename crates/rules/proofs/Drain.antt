@@ -19,7 +19,6 @@ use Rattle.rules.specs.Effects.{room, taken, carried, applied, deleted, 
 use Rattle.rules.specs.Step.{accepted, step, Allowed}
 use Rattle.rules.specs.History.{Turn, World, does, turn, turns, AllAllowed}
 use Rattle.rules.specs.Demand3.{fourCalls, rounds, callsOf, isFine, NoneRefused}
-use Rattle.rules.specs.Scenario.{near}
 use Rattle.rules.proofs.Laws.{byCase, self, or-one, and-true}
 use Rattle.rules.proofs.Tests.{Once, all-head}
 use Rattle.rules.proofs.Steps.{unmet, step-fine}

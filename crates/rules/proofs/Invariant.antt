@@ -5,14 +5,13 @@ use mathlib.Core.Bool.{false, true}
 use mathlib.Core.List.{List, [], _++_, _∷_}
 use Rattle.rules.specs.Lists.{isEmpty}
 use Rattle.rules.specs.Limits.{workerCount}
-use Rattle.rules.specs.Values.{Place, number, Stock}
+use Rattle.rules.specs.Values.{Place, Stock}
 use Rattle.rules.specs.Changes.{Update, follow}
 use Rattle.rules.specs.Tables.{Lease, isHeld, isExclusive, Session, session, Batch, numbersOf, pending, Hand, full, handed, Plant}
 use Rattle.rules.specs.Calls.{done}
 use Rattle.rules.specs.Conditions.{everBegun}
-use Rattle.rules.specs.History.{saw, wrote, Page, changesOf, changesNothing, Committed, History, whole, wholeHistory, does}
+use Rattle.rules.specs.History.{saw, wrote, Page, changesOf, changesNothing, Committed, History, whole, wholeHistory}
 use Rattle.rules.specs.Demand3.{Right, AllRight}
-use Rattle.rules.specs.Scenario.{alone}
 
 -- the pages left, worked at a stock, owe these batches: a quiet page changes nothing there, any other does what its batch does
 pub record Owed (S : Stock) (x : Committed) (b : Batch) : Type 0 where

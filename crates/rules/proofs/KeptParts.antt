@@ -12,7 +12,6 @@ use Rattle.rules.specs.Values.{Place, inRange, absent, fieldOk, Stock}
 use Rattle.rules.specs.Changes.{run, accepts, setsIt}
 use Rattle.rules.specs.Tables.{isHeld, isExclusive, Slot, session, Cached, Batch, numbersOf, isOldest, pending, changesIn, Hand, empty, holds, Plant}
 use Rattle.rules.specs.Reading.{current}
-use Rattle.rules.specs.Effects.{begun}
 use Rattle.rules.specs.Kept.{keyOk, isDefined, goodNumber, sessionOk, isFresh, batchOk, queueOk}
 use Rattle.rules.proofs.Tests.{Once}
 

@@ -9,11 +9,11 @@ use lib.Dec.{eqb, leb, ltb}
 use borrow.Author.Tests.{eqb-true, leb-false, leb-true, lt-ltb, ltb-false}
 use Rattle.rules.specs.Lists.{keep, all, pushed, isEmpty, dropAt, has}
 use Rattle.rules.specs.Limits.{keyCount, cacheLimit, changeLimit, bufferLimit}
-use Rattle.rules.specs.Values.{Place, absent, number, Stock}
+use Rattle.rules.specs.Values.{Place, absent, Stock}
 use Rattle.rules.specs.Changes.{Update, follow, accepts, updateOk}
 use Rattle.rules.specs.Tables.{Cached, isCached, Batch, numbersOf, isOldest, batchOf, unbuffer, pending, changesIn}
 use Rattle.rules.specs.Effects.{evicted, upToDate}
-use Rattle.rules.specs.Kept.{isDefined, goodNumber, batchOk, kept}
+use Rattle.rules.specs.Kept.{isDefined, goodNumber, batchOk}
 use Rattle.rules.proofs.Laws.{byCase, or-one, and-true, both, follow-append, pushed-room}
 use Rattle.rules.proofs.Tests.{Once, all-head, all-tail, all-snoc, all-keep, all-dropAt, length-dropAt, once-map-keep, has-map-dropAt, once-map-dropAt, once-map-snoc}
 use Rattle.rules.proofs.Accepts.{accepts-split, accepts-join, run-set}

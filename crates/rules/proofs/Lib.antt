@@ -32,5 +32,6 @@ pub mod Prepare
 pub mod Drain
 pub mod Demand3
 pub mod Demand2
+pub mod Frames
 pub mod Answers
 pub mod Theorem

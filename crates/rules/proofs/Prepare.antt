@@ -17,7 +17,6 @@ use Rattle.rules.specs.Effects.{lapsedQueue, advanced, orphaned, cut}
 use Rattle.rules.specs.Step.{accepted, step}
 use Rattle.rules.specs.History.{Turn, World, does, turn, turns, AllAllowed}
 use Rattle.rules.specs.Demand3.{Preparation, cutWorker, bringNear, wait, preparing, isCut, isNear, ticksOf, ticks, callsOf, isFine, NoneRefused}
-use Rattle.rules.specs.Scenario.{near}
 use Rattle.rules.proofs.Laws.{byCase, self, or-one, or-zero}
 use Rattle.rules.proofs.Steps.{unmet, step-fine}
 

@@ -3,14 +3,15 @@ use Prim.Native.Nat.{suc, zero, ℕ}
 use mathlib.Core.Path.{_∙_, _≡_, ap, refl, sym}
 use mathlib.Core.Bool.{Bool, false, true, true≢false}
 use mathlib.Core.Option.{Option, none, some}
+use mathlib.Core.Logic.{_⊎_, inl, inr, ⊎-elim}
 use mathlib.Core.List.{List, [], _∷_}
 use lib.IntN.{ℤ}
-use Rattle.rules.specs.Refusals.{Refusal, endsSession, _⇒_, first}
+use Rattle.rules.specs.Refusals.{Refusal, outOfRange, noSlot, wasDoomed, exclusiveElsewhere, changesFull, wrongKind, seventhMember, sumTooLarge, keyUndefined, slotsFull, numbersSpent, sessionBegun, keyDefined, badPlaces, bufferFull, queueLeased, wrongHand, nothingBuffered, rowsFull, storeAway, clockEnd, fewWords, badLine, endsSession, _⇒_, first}
 use Rattle.rules.specs.Tables.{Plant}
 use Rattle.rules.specs.Calls.{Call, Load, Map, Begin, Read, Change, Commit, Abandon, Advance, Take, Apply, Delete, Cut, Sweep, Store, Report, Answer, refused, fine, Pick}
 use Rattle.rules.specs.Conditions.{conditions}
 use Rattle.rules.specs.Step.{accepted, afterRefusal, settle, step}
-use Rattle.rules.specs.Claims.{Leaves, RefusalsLeave}
+use Rattle.rules.specs.Claims.{RefusalsLeave, EndsSession}
 use Rattle.rules.proofs.Laws.{byCase, NoneMet, none-met}
 
 -- ── a condition that holds, or does not ──
@@ -84,18 +85,63 @@ fine-none c lent pick p ns h = go (first (conditions c lent p)) refl h
     go none e z = none-met (conditions c lent p) e
     go (some r) e z = absurd (true≢false (ap isRefused z))
 
--- demand 1: a refused call leaves the plant and the words, but that 3 and 4 end the session that met them
-pub refusals-leave : RefusalsLeave
+-- ── demand 1 ──
+three-or-four : (r : Refusal) → endsSession r ≡ true → (r ≡ wasDoomed) ⊎ (r ≡ exclusiveElsewhere)
+three-or-four outOfRange e = absurd (true≢false (sym e))
+three-or-four noSlot e = absurd (true≢false (sym e))
+three-or-four wasDoomed e = inl refl
+three-or-four exclusiveElsewhere e = inr refl
+three-or-four changesFull e = absurd (true≢false (sym e))
+three-or-four wrongKind e = absurd (true≢false (sym e))
+three-or-four seventhMember e = absurd (true≢false (sym e))
+three-or-four sumTooLarge e = absurd (true≢false (sym e))
+three-or-four keyUndefined e = absurd (true≢false (sym e))
+three-or-four slotsFull e = absurd (true≢false (sym e))
+three-or-four numbersSpent e = absurd (true≢false (sym e))
+three-or-four sessionBegun e = absurd (true≢false (sym e))
+three-or-four keyDefined e = absurd (true≢false (sym e))
+three-or-four badPlaces e = absurd (true≢false (sym e))
+three-or-four bufferFull e = absurd (true≢false (sym e))
+three-or-four queueLeased e = absurd (true≢false (sym e))
+three-or-four wrongHand e = absurd (true≢false (sym e))
+three-or-four nothingBuffered e = absurd (true≢false (sym e))
+three-or-four rowsFull e = absurd (true≢false (sym e))
+three-or-four storeAway e = absurd (true≢false (sym e))
+three-or-four clockEnd e = absurd (true≢false (sym e))
+three-or-four fewWords e = absurd (true≢false (sym e))
+three-or-four badLine e = absurd (true≢false (sym e))
+
+-- what a refusal leaves, from the answer
+pub refused-is : (c : Call) (lent : List ℤ) (pick : Pick) (p : Plant) (r : Refusal) → (step c lent pick p) .answer ≡ refused r
+    → step c lent pick p ≡ record { answer = refused r; words = lent; plant = afterRefusal c r p }
 unfolding step
-refusals-leave c lent pick p r h = go (first (conditions c lent p)) h
+refused-is c lent pick p r h = go (first (conditions c lent p)) h
   where
-    go : (o : Option Refusal) → (settle o c lent pick p) .answer ≡ refused r → Leaves c r lent p (settle o c lent pick p)
+    go : (o : Option Refusal) → (settle o c lent pick p) .answer ≡ refused r → settle o c lent pick p ≡ record { answer = refused r; words = lent; plant = afterRefusal c r p }
     go none z = absurd (true≢false (sym (ap isRefused z) ∙ accepted-fine c lent pick p))
-    go (some x) z =
-        let q : x ≡ r = cc in
-        record {
-          words = refl;
-          plant = λ e. rw (q, e);
-          plantWithout = λ e. rw e (byCase (endsSession x) (λ t. rw t) (λ t. rw t));
-          session = λ s e i. rw (q, e, i);
-        }
+    go (some x) z = let q : x ≡ r = cc in ap (λ y. record { answer = refused y; words = lent; plant = afterRefusal c y p }) q
+
+pub refusals-leave : RefusalsLeave
+refusals-leave c lent pick p r h n m =
+    refused-is c lent pick p r h
+    ∙ byCase (endsSession r) (λ e. absurd (⊎-elim n m (three-or-four r e))) (λ e. rw e)
+
+pub three-ends : EndsSession wasDoomed
+three-ends =
+    record {
+      read = λ s k lent pick p h. refused-is (Read s k) lent pick p wasDoomed h;
+      change = λ s d f k v lent pick p h. refused-is (Change s d f k v) lent pick p wasDoomed h;
+      commit = λ s lent pick p h. refused-is (Commit s) lent pick p wasDoomed h;
+      abandon = λ s lent pick p h. refused-is (Abandon s) lent pick p wasDoomed h;
+      report = λ s lent pick p h. refused-is (Report s) lent pick p wasDoomed h;
+    }
+
+pub four-ends : EndsSession exclusiveElsewhere
+four-ends =
+    record {
+      read = λ s k lent pick p h. refused-is (Read s k) lent pick p exclusiveElsewhere h;
+      change = λ s d f k v lent pick p h. refused-is (Change s d f k v) lent pick p exclusiveElsewhere h;
+      commit = λ s lent pick p h. refused-is (Commit s) lent pick p exclusiveElsewhere h;
+      abandon = λ s lent pick p h. refused-is (Abandon s) lent pick p exclusiveElsewhere h;
+      report = λ s lent pick p h. refused-is (Report s) lent pick p exclusiveElsewhere h;
+    }

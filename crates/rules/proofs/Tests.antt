@@ -141,6 +141,10 @@ all-append f (x ∷ a) b e =
 later : (a b : ℕ) → a ≤ b → (b ≡ a → ⊥) → a + 1 ≤ b
 later a b u v = omega arith
 
+pub all-join : {A : Type 0} (f : A → Bool) (a b : List A) → all f a ≡ true → all f b ≡ true → all f (a ++ b) ≡ true
+all-join f [] b e d = d
+all-join f (x ∷ a) b e d = both (f x) (all f (a ++ b)) (all-head f x a e) (all-join f a b (all-tail f x a e) d)
+
 all-span : (f : ℕ → Bool) (n j k : ℕ) → all f (span j n) ≡ true → j ≤ k → k < j + n → f k ≡ true
 all-span f zero j k e l h = absurd (omega arith)
 all-span f (suc n) j k e l h =

@@ -2,21 +2,28 @@
 use Rattle.rules.specs.Edges.{edges, paper-run}
 use Rattle.rules.specs.Runs.{runs}
 use Rattle.rules.specs.Theorem.{Theorem}
-use Rattle.rules.proofs.Steps.{refusals-leave}
+use Rattle.rules.proofs.Steps.{refusals-leave, three-ends, four-ends}
 use Rattle.rules.proofs.KeptTest.{setup-is-kept, kept-step}
-use Rattle.rules.proofs.Away.{known-away}
+use Rattle.rules.proofs.Away.{known-away, store-away, seen-fits}
 use Rattle.rules.proofs.Demand3.{demand3}
-use Rattle.rules.proofs.Demand2.{reads-show, commit-leaves-store}
+use Rattle.rules.proofs.Demand2.{reads-show}
+use Rattle.rules.proofs.Frames.{writes-only, commit-leaves-store, fills-only}
 use Rattle.rules.proofs.Answers.{some-pick, answers-count}
 
 pub theorem : Theorem
 theorem =
     record {
       refusalsLeave = refusals-leave;
+      threeEnds = three-ends;
+      fourEnds = four-ends;
+      writesOnly = writes-only;
+      fillsOnly = fills-only;
       setupKept = setup-is-kept;
       stepKeeps = kept-step;
       pickExists = some-pick;
       knownAway = known-away;
+      storeAway = store-away;
+      seenFits = seen-fits;
       readsShow = reads-show;
       commitLeavesStore = commit-leaves-store;
       answersCount = answers-count;

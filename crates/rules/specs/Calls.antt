@@ -3,7 +3,7 @@ use Prim.Native.Nat.{ℕ}
 use mathlib.Core.List.{List, [], _∷_, map}
 use lib.IntN.{ℤ}
 use Rattle.rules.specs.Lists.{caseOf}
-use Rattle.rules.specs.Refusals.{Refusal, first}
+use Rattle.rules.specs.Refusals.{Refusal}
 use Rattle.rules.specs.Values.{natOf, Place}
 use Rattle.rules.specs.Changes.{placeOf}
 use Rattle.rules.specs.Tables.{Plant}

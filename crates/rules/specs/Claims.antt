@@ -1,35 +1,85 @@
 -- What is claimed of one call, beside demand 3. Each claim is a type; the proof of it has its name in small letters.
-use Prim.Native.Nat.{_*_, _-_, ℕ}
+use Prim.Native.Nat.{_*_, _+_, suc, ℕ}
 use mathlib.Core.Path.{_≡_}
 use mathlib.Core.Bool.{false, true}
-use mathlib.Core.Option.{none, some}
 use mathlib.Core.List.{List, [], _++_, _∷_, map}
 use lib.ListN.{drop, length}
 use lib.IntN.{ℤ}
 use Rattle.rules.specs.Limits.{wordsPerField}
-use Rattle.rules.specs.Refusals.{Refusal, endsSession}
-use Rattle.rules.specs.Values.{natOf, Place, inRange, showAll}
-use Rattle.rules.specs.Changes.{Update, follow}
-use Rattle.rules.specs.Tables.{documents, session, freed, holds, Plant, setup, withSlots}
+use Rattle.rules.specs.Refusals.{Refusal, wasDoomed, exclusiveElsewhere}
+use Rattle.rules.specs.Values.{natOf, Place, inRange, fieldOk, showAll}
+use Rattle.rules.specs.Changes.{kindOf, Update, follow, isSet, placeOf}
+use Rattle.rules.specs.Tables.{documents, session, freed, holds, Plant, setup, withStore, withKeys, withCache, withSlots, withBuffer, withRows, withHand, withQueue, withClock, withNear, withNext}
 use Rattle.rules.specs.Reading.{seen, knownAway, seenAway}
-use Rattle.rules.specs.Calls.{fateOf, Call, Load, Map, Begin, Read, Change, Commit, Abandon, Advance, Take, Apply, Delete, Cut, Sweep, Store, Report, markNumber, replyNumber, refused, fine, Result, Pick}
+use Rattle.rules.specs.Calls.{fateOf, Call, Load, Map, Begin, Read, Change, Commit, Abandon, Advance, Take, Apply, Delete, Cut, Sweep, Store, Report, markNumber, replyNumber, refused, fine, Pick}
+use Rattle.rules.specs.Conditions.{own}
 use Rattle.rules.specs.Effects.{newSession, mark, replyTo}
-use Rattle.rules.specs.Step.{count, heldShared, heldExclusive, sessionOf, step, Allowed}
+use Rattle.rules.specs.Step.{count, heldShared, heldExclusive, step, Allowed}
 use Rattle.rules.specs.Kept.{kept}
 use Rattle.rules.specs.History.{changesOf, History, wholeHistory, Turn, turns, AllAllowed, initial}
 
 -- ── demand 1 ──
--- a refused call leaves the plant and the words, but that refusals 3 and 4 end the session that met them
-pub record Leaves (c : Call) (r : Refusal) (lent : List ℤ) (p : Plant) (o : Result) : Type 0 where
-  pub words : o .words ≡ lent
-  pub plant : endsSession r ≡ false → o .plant ≡ p
-  pub plantWithout : sessionOf c ≡ none → o .plant ≡ p
-  pub session : (s : ℕ) → endsSession r ≡ true → sessionOf c ≡ some s → o .plant ≡ withSlots (freed s (p .slots)) p
-
+-- a refused call leaves the plant and the words, but for refusals 3 and 4
 abbrev pub RefusalsLeave : Type 0
 RefusalsLeave =
     (c : Call) (lent : List ℤ) (pick : Pick) (p : Plant) (r : Refusal) → (step c lent pick p) .answer ≡ refused r
-    → Leaves c r lent p (step c lent pick p)
+    → (r ≡ wasDoomed → ⊥) → (r ≡ exclusiveElsewhere → ⊥) → step c lent pick p ≡ record { answer = refused r; words = lent; plant = p }
+
+-- these end the session s that met them, and leave all else
+abbrev pub Ends : Refusal → Call → ℤ → Type 0
+Ends r c s =
+    (lent : List ℤ) (pick : Pick) (p : Plant) → (step c lent pick p) .answer ≡ refused r
+    → step c lent pick p ≡ record { answer = refused r; words = lent; plant = withSlots (freed (natOf s) (p .slots)) p }
+
+pub record EndsSession (r : Refusal) : Type 0 where
+  pub read : (s k : ℤ) → Ends r (Read s k) s
+  pub change : (s d f k v : ℤ) → Ends r (Change s d f k v) s
+  pub commit : (s : ℤ) → Ends r (Commit s) s
+  pub abandon : (s : ℤ) → Ends r (Abandon s) s
+  pub report : (s : ℤ) → Ends r (Report s) s
+
+-- ── what a call may write, refused or not ──
+-- the plant left, q, is p but for these tables
+abbrev pub Writes : Call → Plant → Plant → Type 0
+Writes (Load d f k v) p q = q ≡ withStore (q .store) p
+Writes (Map k n m) p q = q ≡ withKeys (q .keys) p
+Writes Begin p q = q ≡ withNext (q .next) (withSlots (q .slots) p)
+Writes (Read s k) p q = q ≡ withCache (q .cache) (withSlots (q .slots) p)
+Writes (Change s d f k v) p q = q ≡ withSlots (q .slots) p
+Writes (Commit s) p q = q ≡ withBuffer (q .buffer) (withCache (q .cache) (withSlots (q .slots) p))
+Writes (Abandon s) p q = q ≡ withSlots (q .slots) p
+Writes (Advance n) p q = q ≡ withClock (q .clock) (withCache (q .cache) (withSlots (q .slots) (withQueue (q .queue) p)))
+Writes (Take w) p q = q ≡ withHand (natOf w) (q .hands (natOf w)) (withQueue (q .queue) p)
+Writes (Apply w fate) p q = q ≡ withHand (natOf w) (q .hands (natOf w)) (withStore (q .store) (withRows (q .rows) p))
+Writes (Delete w) p q = q ≡ withBuffer (q .buffer) (withHand (natOf w) (q .hands (natOf w)) (withQueue (q .queue) p))
+Writes (Cut w) p q = q ≡ withHand (natOf w) (q .hands (natOf w)) (withQueue (q .queue) p)
+Writes Sweep p q = q ≡ withRows (q .rows) p
+Writes (Store n) p q = q ≡ withNear (q .near) p
+Writes (Report s) p q = q ≡ withSlots (q .slots) p
+
+abbrev pub WritesOnly : Type 0
+WritesOnly = (c : Call) (lent : List ℤ) (pick : Pick) (p : Plant) → Writes c p ((step c lent pick p) .plant)
+
+-- only a read writes into the caller's memory, and it lends it back as long as it was
+abbrev pub Fills : Call → List ℤ → List ℤ → Type 0
+Fills (Load d f k v) lent ws = ws ≡ lent
+Fills (Map k n m) lent ws = ws ≡ lent
+Fills Begin lent ws = ws ≡ lent
+Fills (Read s k) lent ws = length ws ≡ length lent
+Fills (Change s d f k v) lent ws = ws ≡ lent
+Fills (Commit s) lent ws = ws ≡ lent
+Fills (Abandon s) lent ws = ws ≡ lent
+Fills (Advance n) lent ws = ws ≡ lent
+Fills (Take w) lent ws = ws ≡ lent
+Fills (Apply w fate) lent ws = ws ≡ lent
+Fills (Delete w) lent ws = ws ≡ lent
+Fills (Cut w) lent ws = ws ≡ lent
+Fills Sweep lent ws = ws ≡ lent
+Fills (Store n) lent ws = ws ≡ lent
+Fills (Report s) lent ws = ws ≡ lent
+
+abbrev pub FillsOnly : Type 0
+FillsOnly = (c : Call) (lent : List ℤ) (pick : Pick) (p : Plant) → Fills c lent ((step c lent pick p) .words)
 
 -- ── the plant's rules ──
 abbrev pub SetupKept : Type 0
@@ -49,9 +99,24 @@ PickExists = (p : Plant) → (pick : Pick) × Allowed pick p
 -- a field known without the store is found without it
 abbrev pub KnownAway : Type 0
 KnownAway =
-    (p : Plant) (own : List Update) (q : Place) → kept p ≡ true → inRange q ≡ true
-    → knownAway (p .keys) (p .cache) (p .buffer) own q ≡ true
-    → seenAway (p .keys) (p .cache) (p .buffer) own q ≡ seen p own q
+    (p : Plant) (cs : List Update) (q : Place) → kept p ≡ true → inRange q ≡ true
+    → knownAway (p .keys) (p .cache) (p .buffer) cs q ≡ true
+    → seenAway (p .keys) (p .cache) (p .buffer) cs q ≡ seen p cs q
+
+-- while the store is away an accepted read shows what is found without it, and a change 3 to 6 has a field that is known without it
+pub record NeedsNoStore (p : Plant) : Type 0 where
+  pub read : (s k : ℤ) (lent : List ℤ) (pick : Pick) (ns : List ℕ) → (step (Read s k) lent pick p) .answer ≡ fine ns
+      → (step (Read s k) lent pick p) .words
+      ≡ showAll (map (seenAway (p .keys) (p .cache) (p .buffer) (own s p)) (p .keys (natOf k))) ++ drop (wordsPerField * length (p .keys (natOf k))) lent
+  pub change : (s d f k v : ℤ) (lent : List ℤ) (pick : Pick) (ns : List ℕ) → (step (Change s d f k v) lent pick p) .answer ≡ fine ns
+      → isSet (kindOf (natOf k)) ≡ false → knownAway (p .keys) (p .cache) (p .buffer) (own s p) (placeOf d f) ≡ true
+
+abbrev pub StoreAway : Type 0
+StoreAway = (p : Plant) → kept p ≡ true → p .near ≡ false → NeedsNoStore p
+
+-- every number that a session sees is one of 32 bits, and every list has at most six
+abbrev pub SeenFits : Type 0
+SeenFits = (p : Plant) (s : ℕ) (q : Place) → kept p ≡ true → inRange q ≡ true → fieldOk (seen p ((session s (p .slots)) .changes) q) ≡ true
 
 -- an answered read, cached or not, shows the starting stock with all committed sessions in commit order and then its own changes;
 -- the words past these are untouched
@@ -68,13 +133,15 @@ ReadsShow =
 
 -- a commit does not touch the store
 abbrev pub CommitLeavesStore : Type 0
-CommitLeavesStore = (s : ℤ) (lent : List ℤ) (pick : Pick) (p : Plant) → ((step (Commit s) lent pick p) .plant) .store ≡ p .store
+CommitLeavesStore =
+    (s : ℤ) (lent : List ℤ) (pick : Pick) (p : Plant)
+    → (((step (Commit s) lent pick p) .plant) .store ≡ p .store) × (((step (Commit s) lent pick p) .plant) .rows ≡ p .rows)
 
 -- ── the numbers answered are those of the tables left ──
 abbrev pub Counts : Call → Plant → List ℕ → Plant → Type 0
 Counts (Load d f k v) p ns q = ns ≡ []
 Counts (Map k n m) p ns q = ns ≡ []
-Counts Begin p ns q = (n : ℕ) × (ns ≡ n ∷ []) × (session n (q .slots) ≡ newSession (q .clock))
+Counts Begin p ns q = (ns ≡ p .next ∷ []) × (q .next ≡ suc (p .next)) × (session (p .next) (q .slots) ≡ newSession (p .clock))
 Counts (Read s k) p ns q = ns ≡ markNumber (mark (natOf s) (natOf k) p) ∷ []
 Counts (Change s d f k v) p ns q = ns ≡ length ((session (natOf s) (q .slots)) .changes) ∷ []
 Counts (Commit s) p ns q = ns ≡ length (q .buffer) ∷ []
@@ -82,9 +149,9 @@ Counts (Abandon s) p ns q = ns ≡ []
 Counts (Advance n) p ns q = ns ≡ q .clock ∷ []
 Counts (Take w) p ns q = (n : ℕ) × (ns ≡ n ∷ []) × (q .hands (natOf w) ≡ holds n false)
 Counts (Apply w fate) p ns q = ns ≡ replyNumber (replyTo (fateOf fate) (natOf w) p) ∷ []
-Counts (Delete w) p ns q = ns ≡ (length (p .buffer) - length (q .buffer)) ∷ []
+Counts (Delete w) p ns q = (n : ℕ) × (ns ≡ n ∷ []) × (length (q .buffer) + n ≡ length (p .buffer))
 Counts (Cut w) p ns q = ns ≡ []
-Counts Sweep p ns q = ns ≡ (length (p .rows) - length (q .rows)) ∷ []
+Counts Sweep p ns q = (n : ℕ) × (ns ≡ n ∷ []) × (length (q .rows) + n ≡ length (p .rows))
 Counts (Store n) p ns q = ns ≡ []
 Counts (Report s) p ns q =
     ns ≡ count (heldShared (session (natOf s) (q .slots))) documents ∷ count (heldExclusive (session (natOf s) (q .slots))) documents

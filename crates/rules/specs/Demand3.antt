@@ -8,7 +8,6 @@ use lib.ListN.{length}
 use lib.IntN.{pos}
 use Rattle.rules.specs.Lists.{keep, any, has, bit}
 use Rattle.rules.specs.Limits.{workerCount, leaseTicks, lastTick}
-use Rattle.rules.specs.Refusals.{nothingBuffered}
 use Rattle.rules.specs.Values.{Stock, showAll}
 use Rattle.rules.specs.Changes.{meets, follow}
 use Rattle.rules.specs.Tables.{numbersOf, Plant}

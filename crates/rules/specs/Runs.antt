@@ -6,18 +6,20 @@ use mathlib.Core.List.{List, [], _++_, _∷_, map}
 use lib.ListN.{replicate}
 use lib.IntN.{negsuc, pos}
 use Rattle.rules.specs.Lists.{pushed, span}
-use Rattle.rules.specs.Limits.{lastSession, lowest, highest}
-use Rattle.rules.specs.Refusals.{fewWords, _⇒_}
-use Rattle.rules.specs.Values.{fits32}
+use Rattle.rules.specs.Limits.{documentCount, fieldCount, keyCount, placeLimit, memberLimit, cacheLimit, slotLimit, changeLimit, bufferLimit, rowLimit, sweepLimit, workerCount, wordsPerField, leaseTicks, sessionTicks, advanceLimit, lastTick, firstSession, lastSession, highest}
+use Rattle.rules.specs.Refusals.{_⇒_}
+use Rattle.rules.specs.Values.{fits32, number}
 use Rattle.rules.specs.Changes.{set, unset, inc, add, push, pull, member, pullFirst, putLast, change, outcomeRefusal, fieldOf, meets, updated, fieldAfter, sets}
 use Rattle.rules.specs.Tables.{documents, Plant, setup, removable, withRows, withClock, withNext}
 use Rattle.rules.specs.Reading.{showsIt}
-use Rattle.rules.specs.Calls.{arrives, lost, unreached, Load, Map, Begin, Commit, Abandon, Advance, Take, Apply, Sweep, Store, Report, callNumber, refused, fine, Pick}
+use Rattle.rules.specs.Calls.{arrives, lost, unreached, Load, Map, Begin, Change, Commit, Abandon, Advance, Take, Apply, Sweep, Store, Report, callNumber, fine, Pick}
 use Rattle.rules.specs.Conditions.{conditions}
 use Rattle.rules.specs.Effects.{loaded, mapped, begun, cacheAfter, onlyAt, afterRead, withExclusive, withLast, grant, changed, committed, abandoned, lapses, lapse, loses, isLost, inDocuments, stays, advanced, taken, carried, applied, deleted, cut, swept}
 use Rattle.rules.specs.Step.{accepted, step}
 use Rattle.rules.specs.Kept.{kept}
-use Rattle.rules.specs.Scenario.{Line, _gets_, yes, says, no, after, Plays, load, pair, zeros, mapOne, mapTwo, read, edit, commit, report, advance, takes, apply, delete, cuts, near, mapOrigin, editOrigin, setting}
+use Rattle.rules.specs.History.{saw, wrote, emptyHistory, note, Turn, turns, initial}
+use Rattle.rules.specs.Scenario.{Line, _gets_, yes, says, no, lineOf, after, Plays, load, pair, zeros, mapOne, mapTwo, read, edit, commit, report, advance, takes, apply, delete, cuts, near, origin, mapOrigin, editOrigin, setting}
+use Rattle.rules.specs.Edges.{changing}
 
 -- session 1's next n sets of the origin, after k
 abbrev pub sets1 : ℕ → ℕ → List Line
@@ -57,6 +59,44 @@ slow1 =
     ∷ delete 1 gets says 1
     ∷ [])
 
+-- keys 0 to n - 1, each with its own document, and reads of them by session 1 that cache them
+abbrev pub mapKeys : ℕ → List Line
+mapKeys zero = []
+mapKeys (suc n) = mapOne n (pair n 0) gets yes ∷ mapKeys n
+
+abbrev pub readKeys : ℕ → List Line
+readKeys zero = []
+readKeys (suc n) = read 1 n gets says 1 ∷ readKeys n
+
+-- the turns of a run, with eight words lent and no choice
+abbrev pub turnsOf : List Line → List Turn
+turnsOf = map (λ l. record { call = l .call; lent = replicate 8 (pos 0); pick = record { gives = 0; swept = [] } })
+
+-- a session's life with the store: read, changed, committed, carried
+abbrev pub life : List Line
+life =
+    Load (pos 0) (pos 0) (pos 1) (pos 100) gets yes
+    ∷ mapOrigin gets yes
+    ∷ Begin gets says 1
+    ∷ read 1 0 gets says 1
+    ∷ Change (pos 1) (pos 0) (pos 0) (pos 3) (negsuc 24) gets says 1
+    ∷ Begin gets says 2
+    ∷ commit 2 gets says 0
+    ∷ commit 1 gets says 1
+    ∷ takes 3 gets says 1
+    ∷ []
+
+-- two workers with the first session in hand, the second one's lease live and nothing buffered
+abbrev pub overtaken : List Line
+overtaken =
+    setting 1 1
+    ++ (takes 1 gets says 1
+    ∷ apply 1 arrives gets says 1
+    ∷ advance 300 gets says 300
+    ∷ takes 0 gets says 1
+    ∷ delete 1 gets says 1
+    ∷ [])
+
 abbrev pub noPick : Pick
 noPick = record { gives = 0; swept = [] }
 
@@ -71,8 +111,8 @@ pub record Runs : Type 0 where
       ∷ load 0 0 unset (pos 5) gets no 1
       ∷ load 0 0 set (pos 2147483648) gets no 1
       ∷ load 0 0 set (negsuc 2147483648) gets no 1
-      ∷ load 63 3 set lowest gets yes
-      ∷ load 63 3 set highest gets yes
+      ∷ load 63 3 set (negsuc 2147483647) gets yes
+      ∷ load 63 3 set (pos 2147483647) gets yes
       ∷ edit 1 64 0 set (pos 1) gets no 1
       ∷ [])
   -- 1: keys, ticks, workers, fates, store marks
@@ -165,7 +205,7 @@ pub record Runs : Type 0 where
   -- 9: key undefined
   pub undefined : Plays setup (Begin gets says 1 ∷ read 1 0 gets no 9 ∷ [])
   -- 22: too few words lent
-  pub words : ((step (read 1 0) (replicate 7 (pos 0)) noPick (after (mapOrigin gets yes ∷ Begin gets says 1 ∷ []) setup)) .answer ≡ refused fewWords)
+  pub words : (lineOf ((step (read 1 0) (replicate 7 (pos 0)) noPick (after (mapOrigin gets yes ∷ Begin gets says 1 ∷ []) setup)) .answer) ≡ no 22)
       × ((step (read 1 0) (replicate 8 (pos 0)) noPick (after (mapOrigin gets yes ∷ Begin gets says 1 ∷ []) setup)) .answer ≡ fine (1 ∷ []))
   -- 10: eight sessions, none doomed; with all doomed the lowest gives its slot, and is gone
   pub slots : Plays setup
@@ -309,6 +349,195 @@ pub record Runs : Type 0 where
       ≡ pos 2 ∷ pos 3 ∷ pos 4 ∷ pos 7 ∷ negsuc 2 ∷ pos 0 ∷ pos 0 ∷ pos 0
       ∷ pos 1 ∷ pos 1 ∷ pos 3 ∷ pos 0 ∷ pos 0 ∷ pos 0 ∷ pos 0 ∷ pos 0
       ∷ pos 9 ∷ []
+  -- a refused call but for 3 and 4 leaves the session
+  pub fullSpares : Plays setup
+      (changing 32 0
+      ++ (Begin gets says 33
+      ∷ editOrigin 33 set (pos 5) gets says 1
+      ∷ commit 33 gets no 15
+      ∷ report 33 gets (0 ∷ 0 ∷ 1 ∷ 1 ∷ [])
+      ∷ []))
+  -- a doomed session's next call is 3, whichever of the five, and the one after it 2
+  pub doomedCalls : Plays setup
+      (mapOrigin gets yes
+      ∷ begins 5 0
+      ++ (advance 1000 gets says 1000
+      ∷ read 1 0 gets no 3
+      ∷ read 1 0 gets no 2
+      ∷ editOrigin 2 set (pos 1) gets no 3
+      ∷ editOrigin 2 set (pos 1) gets no 2
+      ∷ commit 3 gets no 3
+      ∷ commit 3 gets no 2
+      ∷ Abandon (pos 4) gets no 3
+      ∷ Abandon (pos 4) gets no 2
+      ∷ report 5 gets no 3
+      ∷ report 5 gets no 2
+      ∷ []))
+  -- while a slot is free a doomed session keeps its own
+  pub slotKept : Plays setup (Begin gets says 1 ∷ advance 1000 gets says 1000 ∷ Begin gets says 2 ∷ report 1 gets no 3 ∷ [])
+  -- 20: a key of which one place is unknown; push and unset of an unknown field; every fate of apply, but not delete
+  pub halfKnown : Plays setup
+      (mapTwo 0 zeros (pair 0 1) gets yes
+      ∷ near false gets yes
+      ∷ Begin gets says 1
+      ∷ editOrigin 1 set (pos 4) gets says 1
+      ∷ read 1 0 gets no 20
+      ∷ edit 1 0 1 push (pos 4) gets no 20
+      ∷ edit 1 0 1 unset (pos 0) gets says 2
+      ∷ read 1 0 gets says 2
+      ∷ [])
+  pub fatesAway : Plays setup
+      (setting 1 1
+      ++ (takes 0 gets says 1
+      ∷ near false gets yes
+      ∷ apply 0 unreached gets no 20
+      ∷ apply 0 lost gets no 20
+      ∷ near true gets yes
+      ∷ apply 0 arrives gets says 1
+      ∷ near false gets yes
+      ∷ delete 0 gets says 1
+      ∷ []))
+  -- a read of a document held shared leaves its grant
+  pub readAgain : Plays setup
+      (mapOrigin gets yes
+      ∷ Begin gets says 1
+      ∷ read 1 0 gets says 1
+      ∷ advance 200 gets says 200
+      ∷ read 1 0 gets says 0
+      ∷ advance 100 gets says 300
+      ∷ report 1 gets no 3
+      ∷ [])
+  -- delete ends only a lease in its own name; 16 comes before 18
+  pub otherLease : Plays setup (overtaken ++ (takes 2 gets no 16 ∷ []))
+  -- a lapse drops the keys of the documents held, shared or exclusively, and no other
+  pub lapseDrops : Plays setup
+      (mapOne 0 (pair 0 0) gets yes
+      ∷ mapOne 1 (pair 1 0) gets yes
+      ∷ Begin gets says 1
+      ∷ read 1 0 gets says 1
+      ∷ editOrigin 1 set (pos 4) gets says 1
+      ∷ advance 200 gets says 200
+      ∷ Begin gets says 2
+      ∷ read 2 1 gets says 1
+      ∷ advance 100 gets says 300
+      ∷ read 2 1 gets says 0
+      ∷ read 2 0 gets says 1
+      ∷ [])
+  -- mark 2 is by exact place
+  pub markByPlace : Plays setup
+      (mapOrigin gets yes
+      ∷ Begin gets says 1
+      ∷ edit 1 0 1 set (pos 4) gets says 1
+      ∷ read 1 0 gets says 1
+      ∷ read 1 0 gets says 0
+      ∷ [])
+  -- sixteen keys are cached; the seventeenth makes the chosen one, here the first, give way
+  pub seventeen : Plays setup
+      (mapKeys 17
+      ++ (Begin gets says 1
+      ∷ readKeys 16
+      ++ (read 1 15 gets says 0
+      ∷ read 1 16 gets says 1
+      ∷ read 1 14 gets says 0
+      ∷ read 1 16 gets says 0
+      ∷ read 1 15 gets says 1
+      ∷ [])))
+  -- the six changes by their numbers, and what they leave
+  pub six : (step (read 1 0) (replicate 32 (pos 9)) noPick (after
+      (Load (pos 0) (pos 0) (pos 1) (pos 5) gets yes
+      ∷ Load (pos 0) (pos 0) (pos 3) (pos 2) gets yes
+      ∷ Load (pos 0) (pos 1) (pos 1) (pos 5) gets yes
+      ∷ Load (pos 0) (pos 1) (pos 2) (pos 0) gets yes
+      ∷ Load (pos 0) (pos 2) (pos 4) (pos 5) gets yes
+      ∷ Load (pos 0) (pos 2) (pos 4) (pos 5) gets yes
+      ∷ Load (pos 0) (pos 2) (pos 5) (pos 5) gets yes
+      ∷ Load (pos 0) (pos 3) (pos 6) (pos 5) gets yes
+      ∷ Map (pos 0) (pos 4) (record { first = pair 0 0; second = pair 0 1; third = pair 0 2; fourth = pair 0 3 }) gets yes
+      ∷ Begin gets says 1
+      ∷ []) setup)) .words
+      ≡ pos 1 ∷ pos 1 ∷ pos 7 ∷ pos 0 ∷ pos 0 ∷ pos 0 ∷ pos 0 ∷ pos 0
+      ∷ pos 0 ∷ pos 0 ∷ pos 0 ∷ pos 0 ∷ pos 0 ∷ pos 0 ∷ pos 0 ∷ pos 0
+      ∷ pos 2 ∷ pos 2 ∷ pos 5 ∷ pos 5 ∷ pos 0 ∷ pos 0 ∷ pos 0 ∷ pos 0
+      ∷ pos 0 ∷ pos 0 ∷ pos 0 ∷ pos 0 ∷ pos 0 ∷ pos 0 ∷ pos 0 ∷ pos 0
+      ∷ []
+  -- ── two conditions hold: the first in the paper's order is given ──
+  pub orderLoad : Plays setup
+      (load 0 0 set (pos 1) gets yes
+      ∷ near false gets yes
+      ∷ load 0 0 push (pos 1) gets no 20
+      ∷ Begin gets says 1
+      ∷ load 0 0 push (pos 1) gets no 12
+      ∷ load 64 0 push (pos 1) gets no 1
+      ∷ [])
+  pub orderMap : Plays setup
+      (mapOrigin gets yes
+      ∷ Map (pos 0) (pos 0) (record { first = zeros; second = zeros; third = zeros; fourth = zeros }) gets no 13
+      ∷ Begin gets says 1
+      ∷ mapOrigin gets no 12
+      ∷ mapOne 32 zeros gets no 1
+      ∷ Map (pos 1) (pos 1) (record { first = zeros; second = pair 64 0; third = zeros; fourth = zeros }) gets no 1
+      ∷ [])
+  pub orderBegin : Plays (withNext (suc lastSession) (after (begins 8 0) setup)) (Begin gets no 11 ∷ [])
+  pub orderRead : Plays setup
+      (mapTwo 0 zeros (pair 1 0) gets yes
+      ∷ near false gets yes
+      ∷ Begin gets says 1
+      ∷ Begin gets says 2
+      ∷ editOrigin 1 set (pos 4) gets says 1
+      ∷ read 3 32 gets no 1
+      ∷ read 3 5 gets no 2
+      ∷ read 2 0 gets no 4
+      ∷ advance 1000 gets says 1000
+      ∷ read 1 5 gets no 3
+      ∷ [])
+  pub orderWords : lineOf ((step (read 2 0) [] noPick (after (mapOrigin gets yes ∷ Begin gets says 1 ∷ Begin gets says 2 ∷ editOrigin 1 set (pos 4) gets says 1 ∷ []) setup)) .answer)
+      ≡ no 22
+  pub orderChange : Plays setup
+      (load 0 0 set (pos 7) gets yes
+      ∷ near false gets yes
+      ∷ Begin gets says 1
+      ∷ sets1 8 0
+      ++ (Begin gets says 2
+      ∷ edit 2 9 0 set (pos 1) gets says 1
+      ∷ edit 1 9 0 inc (pos 1) gets no 5
+      ∷ Begin gets says 3
+      ∷ edit 3 9 1 inc (pos 1) gets no 4
+      ∷ Begin gets says 4
+      ∷ edit 4 8 0 push (pos 1) gets no 20
+      ∷ edit 5 64 0 push (pos 1) gets no 1
+      ∷ edit 5 8 0 push (pos 1) gets no 2
+      ∷ []))
+  pub orderCommit : Plays setup
+      (changing 32 0
+      ++ (Begin gets says 33
+      ∷ editOrigin 33 set (pos 5) gets says 1
+      ∷ advance 300 gets says 300
+      ∷ commit 33 gets no 3
+      ∷ []))
+  pub orderAdvance : Plays (withClock 99999999999 setup) (advance 65536 gets no 1 ∷ advance 65535 gets no 21 ∷ [])
+  pub orderApply : Plays (handWithRows 2 48)
+      (near false gets yes
+      ∷ apply 0 arrives gets no 20
+      ∷ apply 1 arrives gets no 17
+      ∷ Apply (pos 1) (pos 3) gets no 1
+      ∷ [])
+  -- ── the history, from calls and answers alone ──
+  pub pages : ((turns (turnsOf life) initial) .history) .commits
+      ≡ record { number = 2; page = [] }
+      ∷ record {
+        number = 1;
+        page = saw (origin ∷ []) (pos 1 ∷ pos 1 ∷ pos 100 ∷ pos 0 ∷ pos 0 ∷ pos 0 ∷ pos 0 ∷ pos 0 ∷ []) ∷ wrote (record { at = origin; kind = inc; value = negsuc 24 }) ∷ [];
+      }
+      ∷ []
+  pub startAndNotes : (((turns (turnsOf life) initial) .history) .start origin ≡ number (pos 100))
+      × (((turns (turnsOf life) initial) .history) .buffered ≡ 1 ∷ [])
+      × (((turns (turnsOf life) initial) .history) .noted 3 ≡ 1)
+      × (((turns (turnsOf life) initial) .history) .keys 0 ≡ origin ∷ [])
+  -- ── the paper's numbers ──
+  pub limits : documentCount ∷ fieldCount ∷ keyCount ∷ placeLimit ∷ memberLimit ∷ cacheLimit ∷ slotLimit ∷ changeLimit ∷ bufferLimit ∷ rowLimit
+      ∷ workerCount ∷ sweepLimit ∷ wordsPerField ∷ leaseTicks ∷ sessionTicks ∷ advanceLimit ∷ lastTick ∷ firstSession ∷ lastSession ∷ []
+      ≡ 64 ∷ 4 ∷ 32 ∷ 4 ∷ 6 ∷ 16 ∷ 8 ∷ 8 ∷ 32 ∷ 48
+      ∷ 4 ∷ 16 ∷ 8 ∷ 300 ∷ 1000 ∷ 65535 ∷ 99999999999 ∷ 1 ∷ 4294967295 ∷ []
   -- the calls by their numbers
   pub numbers : map callNumber
       (load 0 0 set (pos 1) ∷ mapOrigin ∷ Begin ∷ read 1 0 ∷ editOrigin 1 set (pos 1) ∷ commit 1 ∷ Abandon (pos 1) ∷ advance 0 ∷ takes 0
@@ -322,7 +551,7 @@ pub record Runs : Type 0 where
 
 -- by computing
 pub runs : Runs
-unfolding setup step conditions accepted mapped loaded begun afterRead cacheAfter onlyAt changed committed abandoned grant lapse advanced taken applied carried deleted cut swept meets updated change member pullFirst putLast fits32 outcomeRefusal fieldOf fieldAfter pushed _⇒_ documents withLast withExclusive lapses loses isLost inDocuments stays showsIt sets kept
+unfolding setup step conditions accepted mapped loaded begun afterRead cacheAfter onlyAt changed committed abandoned grant lapse advanced taken applied carried deleted cut swept meets updated change member pullFirst putLast fits32 outcomeRefusal fieldOf fieldAfter pushed _⇒_ documents withLast withExclusive lapses loses isLost inDocuments stays showsIt sets kept initial emptyHistory note
 runs =
     record {
       range = refl;
@@ -352,6 +581,29 @@ runs =
       marks = refl;
       grants = refl;
       shown = refl;
+      fullSpares = refl;
+      doomedCalls = refl;
+      slotKept = refl;
+      halfKnown = refl;
+      fatesAway = refl;
+      readAgain = refl;
+      otherLease = refl;
+      lapseDrops = refl;
+      markByPlace = refl;
+      seventeen = refl;
+      six = refl;
+      orderLoad = refl;
+      orderMap = refl;
+      orderBegin = refl;
+      orderRead = refl;
+      orderWords = refl;
+      orderChange = refl;
+      orderCommit = refl;
+      orderAdvance = refl;
+      orderApply = refl;
+      pages = refl;
+      startAndNotes = (refl, refl, refl, refl);
+      limits = refl;
       numbers = refl;
       computes = (refl, refl);
     }

@@ -7,7 +7,7 @@ use lib.Dec.{eqb, leb}
 use lib.IntN.{ℤ}
 use Rattle.rules.specs.Lists.{keep, from, any, override, has, upto}
 use Rattle.rules.specs.Limits.{documentCount, workerCount, leaseTicks, firstSession}
-use Rattle.rules.specs.Values.{natOf, isNatural, Place, Field, absent, number, Stock}
+use Rattle.rules.specs.Values.{natOf, isNatural, Place, Field, absent, Stock}
 use Rattle.rules.specs.Changes.{Update}
 
 -- ── leases ──

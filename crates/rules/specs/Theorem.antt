@@ -1,20 +1,31 @@
 -- All that is claimed of the rules.
-use Rattle.rules.specs.Reading.{knownAway}
-use Rattle.rules.specs.Claims.{RefusalsLeave, SetupKept, StepKeeps, PickExists, KnownAway, ReadsShow, CommitLeavesStore, AnswersCount}
+use Rattle.rules.specs.Refusals.{wasDoomed, exclusiveElsewhere}
+use Rattle.rules.specs.Claims.{RefusalsLeave, EndsSession, WritesOnly, FillsOnly, SetupKept, StepKeeps, PickExists, KnownAway, StoreAway, SeenFits, ReadsShow, CommitLeavesStore, AnswersCount}
 use Rattle.rules.specs.Demand3.{Demand3}
-use Rattle.rules.specs.Edges.{paperRun, Edges, edges, PaperRun}
-use Rattle.rules.specs.Runs.{Runs, runs}
+use Rattle.rules.specs.Edges.{Edges, PaperRun}
+use Rattle.rules.specs.Runs.{Runs}
 
 pub record Theorem : Type 0 where
+  -- demand 1
   pub refusalsLeave : RefusalsLeave
+  pub threeEnds : EndsSession wasDoomed
+  pub fourEnds : EndsSession exclusiveElsewhere
+  pub writesOnly : WritesOnly
+  pub fillsOnly : FillsOnly
+  -- the plant's rules
   pub setupKept : SetupKept
   pub stepKeeps : StepKeeps
   pub pickExists : PickExists
+  -- demand 2
   pub knownAway : KnownAway
+  pub storeAway : StoreAway
+  pub seenFits : SeenFits
   pub readsShow : ReadsShow
   pub commitLeavesStore : CommitLeavesStore
   pub answersCount : AnswersCount
+  -- demand 3
   pub demand3 : Demand3
+  -- worked examples
   pub edges : Edges
   pub paperRun : PaperRun
   pub runs : Runs
