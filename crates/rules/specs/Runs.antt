@@ -450,14 +450,15 @@ pub record Runs : Type 0 where
       ∷ Load (pos 0) (pos 1) (pos 2) (pos 0) gets yes
       ∷ Load (pos 0) (pos 2) (pos 4) (pos 5) gets yes
       ∷ Load (pos 0) (pos 2) (pos 4) (pos 5) gets yes
-      ∷ Load (pos 0) (pos 2) (pos 5) (pos 5) gets yes
+      ∷ Load (pos 0) (pos 2) (pos 5) (pos 6) gets yes
+      ∷ Load (pos 0) (pos 2) (pos 5) (pos 6) gets yes
       ∷ Load (pos 0) (pos 3) (pos 6) (pos 5) gets yes
       ∷ Map (pos 0) (pos 4) (record { first = pair 0 0; second = pair 0 1; third = pair 0 2; fourth = pair 0 3 }) gets yes
       ∷ Begin gets says 1
       ∷ []) setup)) .words
       ≡ pos 1 ∷ pos 1 ∷ pos 7 ∷ pos 0 ∷ pos 0 ∷ pos 0 ∷ pos 0 ∷ pos 0
       ∷ pos 0 ∷ pos 0 ∷ pos 0 ∷ pos 0 ∷ pos 0 ∷ pos 0 ∷ pos 0 ∷ pos 0
-      ∷ pos 2 ∷ pos 2 ∷ pos 5 ∷ pos 5 ∷ pos 0 ∷ pos 0 ∷ pos 0 ∷ pos 0
+      ∷ pos 2 ∷ pos 3 ∷ pos 5 ∷ pos 6 ∷ pos 6 ∷ pos 0 ∷ pos 0 ∷ pos 0
       ∷ pos 0 ∷ pos 0 ∷ pos 0 ∷ pos 0 ∷ pos 0 ∷ pos 0 ∷ pos 0 ∷ pos 0
       ∷ []
   -- ── two conditions hold: the first in the paper's order is given ──
