@@ -1,0 +1,4 @@
+pub mod Loops
+pub mod Views
+pub mod Indexed
+pub mod Forms

@@ -1,0 +1,14 @@
+-- Searches and folds over a list, from its front.
+-- Assumes nothing.
+use mathlib.Core.Bool.{Bool, cond}
+use mathlib.Core.List.{List, [], _∷_}
+use Prim.Native.Nat.{ℕ, _+_}
+
+-- the place of the first element that passes the test, counted from i, or none
+unfoldable pub firstAt : {A : Type 0} → (A → Bool) → ℕ → ℕ → List A → ℕ
+firstAt p none i [] = none
+firstAt p none i (x ∷ xs) = cond (p x) i (firstAt p none (i + 1) xs)
+
+unfoldable pub fold : {A B : Type 0} → (B → A → B) → B → List A → B
+fold f b [] = b
+fold f b (x ∷ xs) = fold f (f b x) xs
