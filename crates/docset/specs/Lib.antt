@@ -1,0 +1,2 @@
+-- What the contracts of sets of documents cite.
+pub mod Sets
