@@ -1,0 +1,15 @@
+use Rattle.workers.specs.Form.{handForm}
+use Rattle.workers.specs.View.{viewHand}
+use mathlib.Core.Path.{refl}
+use Rattle.workers.proofs.Hand.empty.Statement.{statement}
+use Rattle.workers.proofs.Hand.empty.Tie as tie
+use Rattle.workers.proofs.Hand.empty.Reads as reads
+use Rattle.workers.proofs.Hand.empty.Lts as lts
+
+-- src/lib.rt:21:5
+returns : tie.Need-returns
+unfolding viewHand handForm
+returns c = (refl, refl)
+
+pub empty-spec : {M : Type 1} → statement M
+empty-spec = tie.close (tie.spec returns)

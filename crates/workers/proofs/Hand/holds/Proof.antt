@@ -1,0 +1,16 @@
+use Rattle.workers.proofs.HandLaws.{holds-full, holds-empty}
+use Rattle.workers.proofs.Hand.holds.Statement.{statement}
+use Rattle.workers.proofs.Hand.holds.Tie as tie
+use Rattle.workers.proofs.Hand.holds.Reads as reads
+use Rattle.workers.proofs.Hand.holds.Lts as lts
+
+-- src/lib.rt:73:13
+returns : tie.Need-returns
+returns c = search holds-full
+
+-- src/lib.rt:69:5
+returns-2 : tie.Need-returns-2
+returns-2 c = search holds-empty
+
+pub holds-spec : {M : Type 1} → statement M
+holds-spec = tie.close (tie.spec returns returns-2)

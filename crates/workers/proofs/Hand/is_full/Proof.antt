@@ -1,0 +1,12 @@
+use Rattle.workers.proofs.HandLaws.{full-is}
+use Rattle.workers.proofs.Hand.is_full.Statement.{statement}
+use Rattle.workers.proofs.Hand.is_full.Tie as tie
+use Rattle.workers.proofs.Hand.is_full.Reads as reads
+use Rattle.workers.proofs.Hand.is_full.Lts as lts
+
+-- src/lib.rt:54:5
+returns : tie.Need-returns
+returns c = full-is _
+
+pub is-full-spec : {M : Type 1} → statement M
+is-full-spec = tie.close (tie.spec returns)

@@ -1,0 +1,4 @@
+-- Laws of the workers' tables.
+pub mod HandLaws
+pub mod QueueLaws
+pub mod Unique

@@ -1,0 +1,15 @@
+use Rattle.workers.specs.Form.{queueForm}
+use Rattle.workers.specs.View.{viewQueue, ownerOf}
+use mathlib.Core.Path.{refl}
+use Rattle.workers.proofs.Queue.taken.Statement.{statement}
+use Rattle.workers.proofs.Queue.taken.Tie as tie
+use Rattle.workers.proofs.Queue.taken.Reads as reads
+use Rattle.workers.proofs.Queue.taken.Lts as lts
+
+-- src/lib.rt:115:5
+returns : tie.Need-returns
+unfolding viewQueue queueForm ownerOf
+returns c = (refl, refl)
+
+pub taken-spec : {M : Type 1} → statement M
+taken-spec = tie.close (tie.spec returns)

@@ -1,0 +1,3 @@
+-- The workers' tables as the rules see them.
+pub mod View
+pub mod Form
