@@ -1,0 +1,15 @@
+use mathlib.Core.Path.{refl}
+use Rattle.lists.specs.Table.{counted, tableForm}
+use Rattle.rows.specs.View.{viewRows, rowsForm}
+use Rattle.rows.proofs.Rows.empty.Statement.{statement}
+use Rattle.rows.proofs.Rows.empty.Tie as tie
+use Rattle.rows.proofs.Rows.empty.Reads as reads
+use Rattle.rows.proofs.Rows.empty.Lts as lts
+
+-- src/lib.rt:80:5
+returns : tie.Need-returns
+unfolding viewRows rowsForm counted tableForm
+returns c = (refl, refl)
+
+pub empty-spec : {M : Type 1} → statement M
+empty-spec = tie.close (tie.spec returns)

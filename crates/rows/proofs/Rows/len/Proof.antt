@@ -1,0 +1,28 @@
+use Rattle.lists.proofs.Views.{counted-few, counted-full}
+use Rattle.rows.specs.View.{viewRows}
+use borrow.Author.Needs.{needs}
+use Rattle.rows.proofs.Rows.len.Statement.{statement}
+use Rattle.rows.proofs.Rows.len.Tie as tie
+use Rattle.rows.proofs.Rows.len.Reads as reads
+use Rattle.rows.proofs.Rows.len.Lts as lts
+
+-- src/lib.rt:127:27
+cast-if1 : tie.Need-cast-if1
+cast-if1 c = search needs
+
+-- src/lib.rt:128:20
+cast-result : tie.Need-cast-result
+cast-result c = search needs
+
+-- src/lib.rt:128:13
+returns : tie.Need-returns
+unfolding viewRows
+returns c = search (counted-full, needs)
+
+-- src/lib.rt:123:5
+returns-2 : tie.Need-returns-2
+unfolding viewRows
+returns-2 c = search (counted-few, needs)
+
+pub len-spec : {M : Type 1} → statement M
+len-spec = tie.close (tie.spec cast-if1 cast-result returns returns-2)

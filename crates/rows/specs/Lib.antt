@@ -1,0 +1,2 @@
+-- Rows as the rules see them.
+pub mod View

@@ -1,0 +1,161 @@
+// The store's rows of applied sessions, and the rows that a sweep picks.
+ghost use mathlib.Core.Path.{_≡_};
+ghost use mathlib.Core.Bool.{true, not, cond};
+ghost use mathlib.Core.List.{[]};
+ghost use lib.Dec.{eqb, leb};
+ghost use lib.ListN.{length};
+ghost use Rattle.rules.specs.Limits.{rowLimit, sweepLimit};
+ghost use Rattle.rules.specs.Lists.{has, keep, pushed};
+ghost use Rattle.rows.specs.View.{viewRows, viewPicks, rowsForm, picksForm};
+
+// Two session numbers are equal.
+fn same(a: u32, b: u32) -> bool
+    ensures { λ r. ⌜ r ≡ eqb a b ⌝ }
+{
+    a == b
+}
+
+// The rows that a sweep removes.
+pub struct Picks {
+    pub count: u8,
+    pub numbers: [u32; 16],
+}
+
+impl Picks {
+    pub const LIMIT: usize = 16;
+
+    pub fn empty() -> Self
+        ensures shows { λ r. ⌜ viewPicks r ≡ [] ⌝ }
+        ensures form { λ r. ⌜ picksForm r ≡ true ⌝ }
+    {
+        Self {
+            count: 0,
+            numbers: [0; Self::LIMIT],
+        }
+    }
+
+    pub fn has(self, n: u32) -> bool
+        ensures { λ r. ⌜ r ≡ has n (viewPicks self) ⌝ }
+    {
+        let count = self.count as usize;
+        let mut i: usize = 0;
+        while i < Self::LIMIT {
+            if count <= i {
+                return false;
+            }
+            let m = self.numbers[i];
+            if same(n, m) {
+                return true;
+            }
+            i += 1;
+        }
+        false
+    }
+
+    // One more, if there is room.
+    pub fn push(self, n: u32) -> Self
+        ensures shows { λ r. ⌜ viewPicks r ≡ pushed sweepLimit (viewPicks self) n ⌝ }
+        ensures form { λ r. ⌜ (picksForm self ≡ true → picksForm r ≡ true) ⌝ }
+    {
+        let at = self.count as usize;
+        if Self::LIMIT <= at {
+            return self;
+        }
+        let mut t = self;
+        t.numbers[at] = n;
+        t.count = self.count + 1;
+        t
+    }
+}
+
+// The rows in the store: the numbers of applied sessions, in the order in which they came to stand.
+pub struct Rows {
+    pub count: u8,
+    pub numbers: [u32; 48],
+}
+
+impl Rows {
+    pub const LIMIT: usize = 48;
+
+    pub fn empty() -> Self
+        ensures shows { λ r. ⌜ viewRows r ≡ [] ⌝ }
+        ensures form { λ r. ⌜ rowsForm r ≡ true ⌝ }
+    {
+        Self {
+            count: 0,
+            numbers: [0; Self::LIMIT],
+        }
+    }
+
+    pub fn has(self, n: u32) -> bool
+        ensures { λ r. ⌜ r ≡ has n (viewRows self) ⌝ }
+    {
+        let count = self.count as usize;
+        let mut i: usize = 0;
+        while i < Self::LIMIT {
+            if count <= i {
+                return false;
+            }
+            let m = self.numbers[i];
+            if same(n, m) {
+                return true;
+            }
+            i += 1;
+        }
+        false
+    }
+
+    // One more, if there is room.
+    pub fn push(self, n: u32) -> Self
+        ensures shows { λ r. ⌜ viewRows r ≡ pushed rowLimit (viewRows self) n ⌝ }
+        ensures form { λ r. ⌜ (rowsForm self ≡ true → rowsForm r ≡ true) ⌝ }
+    {
+        let at = self.count as usize;
+        if Self::LIMIT <= at {
+            return self;
+        }
+        let mut t = self;
+        t.numbers[at] = n;
+        t.count = self.count + 1;
+        t
+    }
+
+    pub fn len(self) -> u8
+        ensures { λ r. ⌜ r ≡ length (viewRows self) ⌝ }
+    {
+        let n = self.count;
+        if Self::LIMIT <= n as usize {
+            return Self::LIMIT as u8;
+        }
+        n
+    }
+
+    fn push_unless(self, n: u32, picks: Picks) -> Self
+        ensures shows { λ r. ⌜ viewRows r ≡ cond (not (has n (viewPicks picks))) (pushed rowLimit (viewRows self) n) (viewRows self) ⌝ }
+        ensures form { λ r. ⌜ (rowsForm self ≡ true → rowsForm r ≡ true) ⌝ }
+    {
+        if picks.has(n) {
+            return self;
+        }
+        self.push(n)
+    }
+
+    // The rows that are not picked.
+    pub fn without(self, picks: Picks) -> Self
+        ensures shows { λ r. ⌜ viewRows r ≡ keep (λ n. not (has n (viewPicks picks))) (viewRows self) ⌝ }
+        ensures form { λ r. ⌜ rowsForm r ≡ true ⌝ }
+    {
+        let count = self.count as usize;
+        let mut kept = Rows::empty();
+        let mut i: usize = 0;
+        while i < Self::LIMIT {
+            if count <= i {
+                return kept;
+            }
+            let n = self.numbers[i];
+            kept = kept.push_unless(n, picks);
+            i += 1;
+        }
+        kept
+    }
+}
