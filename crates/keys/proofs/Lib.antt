@@ -1,0 +1,3 @@
+-- Laws of places and keys.
+pub mod KeyLaws
+pub mod Unique

@@ -1,0 +1,15 @@
+use mathlib.Core.Path.{refl}
+use Rattle.keys.specs.View.{viewPlace}
+use Rattle.keys.specs.Form.{isBlank}
+use Rattle.keys.proofs.Place.empty.Statement.{statement}
+use Rattle.keys.proofs.Place.empty.Tie as tie
+use Rattle.keys.proofs.Place.empty.Reads as reads
+use Rattle.keys.proofs.Place.empty.Lts as lts
+
+-- src/lib.rt:20:5
+returns : tie.Need-returns
+unfolding viewPlace isBlank
+returns c = (refl, refl)
+
+pub empty-spec : {M : Type 1} → statement M
+empty-spec = tie.close (tie.spec returns)

@@ -1,0 +1,3 @@
+-- Keys as the rules see them.
+pub mod View
+pub mod Form
