@@ -1,0 +1,53 @@
+-- Changes through their views: one law for each way out of a method.
+use Prim.Native.Nat.{ℕ}
+use mathlib.Core.Path.{_≡_, refl, sym, _∙_, ap}
+use mathlib.Core.Bool.{Bool, true, false, cond, _&&_, _||_}
+use mathlib.Core.List.{List, [], _∷_}
+use lib.Dec.{eqb}
+use borrow.Author.Tests.{eq-eqb, ne-eqb}
+use Rattle.rules.specs.Values as S
+use Rattle.rules.specs.Changes as C
+use Rattle.rules.proofs.Laws.{byCase}
+use Rattle.keys.specs.View.{viewPlace}
+use Rattle.keys.specs.Form.{isBlank}
+use Rattle.keys.specs.declared.Place.{Place}
+use Rattle.lists.proofs.Forms.{form-empty}
+use Rattle.changes.specs.View.{viewUpdate}
+use Rattle.changes.specs.Form.{isUsed, isUnused, changesForm}
+use Rattle.changes.specs.declared.Update.{Update}
+
+-- which of the six numbers set or unset
+later : (b c d e : Bool) → C.isSet (cond b C.inc (cond c C.add (cond d C.push (cond e C.pull C.pull)))) ≡ false
+later true c d e = refl
+later false true d e = refl
+later false false true e = refl
+later false false false true = refl
+later false false false false = refl
+
+pub set-is : (k : ℕ) → k ≡ 1 → true ≡ C.isSet (C.kindOf k)
+set-is k e = rw e
+
+pub unset-is : (k : ℕ) → (k ≡ 1 → ⊥) → eqb k 2 ≡ C.isSet (C.kindOf k)
+unset-is k n = rw (ne-eqb k 1 n) (byCase (eqb k 2) (λ e. rw e) (λ e. rw e (sym (later (eqb k 3) (eqb k 4) (eqb k 5) (eqb k 6)))))
+
+module _ (c : Update) (q : Place) where
+  pub at-is : {r : Bool} → r ≡ S.samePlace (viewPlace q) (viewPlace (c .place)) → r ≡ S.samePlace (viewPlace q) (viewUpdate c .at)
+  unfolding viewUpdate
+  at-is e = e
+
+  module _ (t : Bool) (a : t ≡ S.samePlace (viewPlace q) (viewUpdate c .at)) where
+    pub sets-here : {r : Bool} → t ≡ true → r ≡ C.isSet (C.kindOf (c .kind)) → r ≡ C.sets (viewPlace q) (viewUpdate c)
+    unfolding C.sets viewUpdate
+    sets-here e h = h ∙ rw (← a, e)
+
+    pub sets-elsewhere : t ≡ false → false ≡ C.sets (viewPlace q) (viewUpdate c)
+    unfolding C.sets viewUpdate
+    sets-elsewhere e = rw (← a, e)
+
+pub unused-is : (q : Place) → isBlank q ≡ true → isUnused (record { place = q; kind = 0; value = lib.IntN.pos 0 }) ≡ true
+unfolding isUnused
+unused-is q e = rw e
+
+pub changes-empty : (c : Update) → isUnused c ≡ true → changesForm (record { count = 0; items = c ∷ c ∷ c ∷ c ∷ c ∷ c ∷ c ∷ c ∷ [] }) ≡ true
+unfolding changesForm
+changes-empty c e = form-empty 8 isUsed isUnused c e

@@ -1,0 +1,16 @@
+use borrow.Author.Needs.{needs}
+use Rattle.lists.proofs.Loops.{length-mapped}
+use Rattle.lists.proofs.Views.{counted-empty}
+use Rattle.changes.specs.View.{viewChanges}
+use Rattle.changes.proofs.Changes.is_empty.Statement.{statement}
+use Rattle.changes.proofs.Changes.is_empty.Tie as tie
+use Rattle.changes.proofs.Changes.is_empty.Reads as reads
+use Rattle.changes.proofs.Changes.is_empty.Lts as lts
+
+-- src/lib.rt:96:5
+returns : tie.Need-returns
+unfolding viewChanges
+returns c = search (counted-empty, length-mapped, needs)
+
+pub is-empty-spec : {M : Type 1} → statement M
+is-empty-spec = tie.close (tie.spec returns)

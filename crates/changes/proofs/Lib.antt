@@ -1,0 +1,2 @@
+-- Laws of changes.
+pub mod ChangeLaws

@@ -1,0 +1,3 @@
+-- Changes as the rules see them.
+pub mod View
+pub mod Form

@@ -1,0 +1,154 @@
+// One change of one place, and the changes of a session in their order.
+ghost use mathlib.Core.Path.{_≡_};
+ghost use mathlib.Core.Bool.{true};
+ghost use mathlib.Core.List.{[]};
+ghost use lib.ListN.{length};
+ghost use Rattle.rules.specs.Limits.{changeLimit};
+ghost use Rattle.rules.specs.Lists.{isEmpty, pushed};
+ghost use Rattle.rules.specs.Values.{samePlace};
+ghost use Rattle.rules.specs.Changes.{kindOf, isSet, sets, touches, setsIt};
+ghost use Rattle.keys.specs.View.{viewPlace};
+ghost use Rattle.changes.specs.View.{viewUpdate, viewChanges};
+ghost use Rattle.changes.specs.Form.{isUsed, isUnused, changesForm};
+use keys::Place;
+
+// A change: its place, its number 1 to 6 and its value.
+pub struct Update {
+    pub place: Place,
+    pub kind: u8,
+    pub value: i32,
+}
+
+// Set and unset make a field whatever it was.
+fn is_set(kind: u8) -> bool
+    ensures { λ r. ⌜ r ≡ isSet (kindOf kind) ⌝ }
+{
+    if kind == Update::SET {
+        return true;
+    }
+    kind == Update::UNSET
+}
+
+impl Update {
+    pub const SET: u8 = 1;
+
+    pub const UNSET: u8 = 2;
+
+    pub fn empty() -> Self
+        ensures { λ r. ⌜ isUnused r ≡ true ⌝ }
+    {
+        let place = Place::empty();
+        Self {
+            place,
+            kind: 0,
+            value: 0,
+        }
+    }
+
+    pub fn is_at(self, q: Place) -> bool
+        ensures { λ r. ⌜ r ≡ samePlace (viewPlace q) (viewUpdate self .at) ⌝ }
+    {
+        let place = self.place;
+        q.is(place)
+    }
+
+    // It sets or unsets the place.
+    pub fn sets(self, q: Place) -> bool
+        ensures { λ r. ⌜ r ≡ sets (viewPlace q) (viewUpdate self) ⌝ }
+    {
+        if self.is_at(q) {
+            return is_set(self.kind);
+        }
+        false
+    }
+}
+
+// The changes of a session, oldest first.
+pub struct Changes {
+    pub count: u8,
+    pub items: [Update; 8],
+}
+
+impl Changes {
+    pub const LIMIT: usize = 8;
+
+    pub fn empty() -> Self
+        ensures shows { λ r. ⌜ viewChanges r ≡ [] ⌝ }
+        ensures form { λ r. ⌜ changesForm r ≡ true ⌝ }
+    {
+        let c = Update::empty();
+        Self {
+            count: 0,
+            items: [c; Self::LIMIT],
+        }
+    }
+
+    pub fn len(self) -> u8
+        ensures { λ r. ⌜ r ≡ length (viewChanges self) ⌝ }
+    {
+        let n = self.count;
+        if Self::LIMIT <= n as usize {
+            return Self::LIMIT as u8;
+        }
+        n
+    }
+
+    pub fn is_empty(self) -> bool
+        ensures { λ r. ⌜ r ≡ isEmpty (viewChanges self) ⌝ }
+    {
+        self.count == 0
+    }
+
+    // One more, if there is room.
+    pub fn push(self, c: Update) -> Self
+        ensures shows { λ r. ⌜ viewChanges r ≡ pushed changeLimit (viewChanges self) (viewUpdate c) ⌝ }
+        ensures form { λ r. ⌜ (isUsed c ≡ true → changesForm self ≡ true → changesForm r ≡ true) ⌝ }
+    {
+        let at = self.count as usize;
+        if Self::LIMIT <= at {
+            return self;
+        }
+        let mut t = self;
+        t.items[at] = c;
+        t.count = self.count + 1;
+        t
+    }
+
+    // Some change is to the place.
+    pub fn touches(self, q: Place) -> bool
+        ensures { λ r. ⌜ r ≡ touches (viewChanges self) (viewPlace q) ⌝ }
+    {
+        let count = self.count as usize;
+        let mut i: usize = 0;
+        while i < Self::LIMIT {
+            if count <= i {
+                return false;
+            }
+            let c = self.items[i];
+            if c.is_at(q) {
+                return true;
+            }
+            i += 1;
+        }
+        false
+    }
+
+    // Some change sets or unsets the place.
+    pub fn sets(self, q: Place) -> bool
+        ensures { λ r. ⌜ r ≡ setsIt (viewChanges self) (viewPlace q) ⌝ }
+    {
+        let count = self.count as usize;
+        let mut i: usize = 0;
+        while i < Self::LIMIT {
+            if count <= i {
+                return false;
+            }
+            let c = self.items[i];
+            if c.sets(q) {
+                return true;
+            }
+            i += 1;
+        }
+        false
+    }
+}
