@@ -11,6 +11,9 @@ use Rattle.rules.proofs.Laws.{byCase}
 use Rattle.keys.specs.View.{viewPlace}
 use Rattle.keys.specs.Form.{isBlank}
 use Rattle.keys.specs.declared.Place.{Place}
+use Rattle.field.specs.View.{viewField}
+use Rattle.field.specs.declared.Field.{Field}
+use Rattle.lists.specs.Find.{fold}
 use Rattle.lists.proofs.Forms.{form-empty}
 use Rattle.changes.specs.View.{viewUpdate}
 use Rattle.changes.specs.Form.{isUsed, isUnused, changesForm}
@@ -43,6 +46,20 @@ module _ (c : Update) (q : Place) where
     pub sets-elsewhere : t ≡ false → false ≡ C.sets (viewPlace q) (viewUpdate c)
     unfolding C.sets viewUpdate
     sets-elsewhere e = rw (← a, e)
+
+module _ (c : Update) (q : Place) (f : Field) (t : Bool) (a : t ≡ S.samePlace (viewPlace q) (viewUpdate c .at)) where
+  pub after-here : {r : S.Field} → t ≡ true → r ≡ C.fieldOf (C.change (C.kindOf (c .kind)) (c .value) (viewField f)) (viewField f) → r ≡ C.fieldAfter (viewPlace q) (viewField f) (viewUpdate c)
+  unfolding C.fieldAfter C.updated viewUpdate
+  after-here e h = h ∙ rw (← a, e)
+
+  pub after-elsewhere : t ≡ false → viewField f ≡ C.fieldAfter (viewPlace q) (viewField f) (viewUpdate c)
+  unfolding C.fieldAfter
+  after-elsewhere e = rw (← a, e)
+
+pub run-fold : (cs : List C.Update) (q : S.Place) (f : S.Field) → C.run cs q f ≡ fold (C.fieldAfter q) f cs
+unfolding fold
+run-fold [] q f = refl
+run-fold (c ∷ cs) q f = run-fold cs q (C.fieldAfter q f c)
 
 pub unused-is : (q : Place) → isBlank q ≡ true → isUnused (record { place = q; kind = 0; value = lib.IntN.pos 0 }) ≡ true
 unfolding isUnused

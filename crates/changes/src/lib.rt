@@ -6,10 +6,12 @@ ghost use lib.ListN.{length};
 ghost use Rattle.rules.specs.Limits.{changeLimit};
 ghost use Rattle.rules.specs.Lists.{isEmpty, pushed};
 ghost use Rattle.rules.specs.Values.{samePlace};
-ghost use Rattle.rules.specs.Changes.{kindOf, isSet, sets, touches, setsIt};
+ghost use Rattle.rules.specs.Changes.{kindOf, isSet, fieldAfter, run, sets, touches, setsIt};
+ghost use Rattle.field.specs.View.{viewField, isForm};
 ghost use Rattle.keys.specs.View.{viewPlace};
 ghost use Rattle.changes.specs.View.{viewUpdate, viewChanges};
 ghost use Rattle.changes.specs.Form.{isUsed, isUnused, changesForm};
+use field::Field;
 use keys::Place;
 
 // A change: its place, its number 1 to 6 and its value.
@@ -60,6 +62,18 @@ impl Update {
             return is_set(self.kind);
         }
         false
+    }
+
+    // A place's field after it.
+    pub fn after(self, q: Place, f: Field) -> Field
+        ensures shows { λ r. ⌜ viewField r ≡ fieldAfter (viewPlace q) (viewField f) (viewUpdate self) ⌝ }
+        ensures form { λ r. ⌜ (isForm f ≡ true → isForm r ≡ true) ⌝ }
+    {
+        if self.is_at(q) {
+            let a = f.changed(self.kind, self.value);
+            return a.field;
+        }
+        f
     }
 }
 
@@ -150,5 +164,24 @@ impl Changes {
             i += 1;
         }
         false
+    }
+
+    // A place's field after all of them.
+    pub fn run(self, q: Place, f: Field) -> Field
+        ensures shows { λ r. ⌜ viewField r ≡ run (viewChanges self) (viewPlace q) (viewField f) ⌝ }
+        ensures form { λ r. ⌜ (isForm f ≡ true → isForm r ≡ true) ⌝ }
+    {
+        let count = self.count as usize;
+        let mut now = f;
+        let mut i: usize = 0;
+        while i < Self::LIMIT {
+            if count <= i {
+                return now;
+            }
+            let c = self.items[i];
+            now = c.after(q, now);
+            i += 1;
+        }
+        now
     }
 }
