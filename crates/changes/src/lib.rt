@@ -7,7 +7,7 @@ ghost use Rattle.rules.specs.Limits.{changeLimit};
 ghost use Rattle.rules.specs.Lists.{isEmpty, pushed};
 ghost use Rattle.rules.specs.Values.{samePlace};
 ghost use Rattle.rules.specs.Changes.{kindOf, isSet, fieldAfter, run, sets, touches, setsIt};
-ghost use Rattle.field.specs.View.{viewField, isForm};
+ghost use Rattle.field.specs.View.{viewField, fieldForm};
 ghost use Rattle.keys.specs.View.{viewPlace};
 ghost use Rattle.changes.specs.View.{viewUpdate, viewChanges};
 ghost use Rattle.changes.specs.Form.{isUsed, isUnused, changesForm};
@@ -67,7 +67,7 @@ impl Update {
     // A place's field after it.
     pub fn after(self, q: Place, f: Field) -> Field
         ensures shows { λ r. ⌜ viewField r ≡ fieldAfter (viewPlace q) (viewField f) (viewUpdate self) ⌝ }
-        ensures form { λ r. ⌜ (isForm f ≡ true → isForm r ≡ true) ⌝ }
+        ensures form { λ r. ⌜ (fieldForm f ≡ true → fieldForm r ≡ true) ⌝ }
     {
         if self.is_at(q) {
             let a = f.changed(self.kind, self.value);
@@ -169,7 +169,7 @@ impl Changes {
     // A place's field after all of them.
     pub fn run(self, q: Place, f: Field) -> Field
         ensures shows { λ r. ⌜ viewField r ≡ run (viewChanges self) (viewPlace q) (viewField f) ⌝ }
-        ensures form { λ r. ⌜ (isForm f ≡ true → isForm r ≡ true) ⌝ }
+        ensures form { λ r. ⌜ (fieldForm f ≡ true → fieldForm r ≡ true) ⌝ }
     {
         let count = self.count as usize;
         let mut now = f;

@@ -25,7 +25,7 @@ use Rattle.rules.specs.Changes.{Kind, kindOf, kindNumber, change, putLast, memb
 use Rattle.lists.proofs.Loops.{Removing, remove-start, remove-end, dropAt-append, length-dropAt}
 use Rattle.field.specs.declared.Field.{Field}
 use Rattle.field.specs.declared.Applied.{Applied}
-use Rattle.field.specs.View.{viewField, viewApplied, isForm, indexOf}
+use Rattle.field.specs.View.{viewField, viewApplied, fieldForm, indexOf}
 use Rattle.field.proofs.Signed.{held, held-is, in-range, leZ-is}
 use Rattle.field.proofs.ViewLaws.{members, view-absent, view-number, view-list, byKind, first-values, few, split, form-of, is-form}
 use Rattle.field.proofs.Members.{found, not-found}
@@ -125,7 +125,7 @@ module _ (f : Field) (v : ℤ) where
       unfolding viewApplied putLast
       push-room m = ap becomes pushed ∙ sym (push-is v (viewField f) (no-number m) ∙ simp (← e, lt-leb _ _ h))
 
-      pub push-form : isForm f ≡ true → isForm (listOf (n + 1) (set (f .values) n (held v))) ≡ true
+      pub push-form : fieldForm f ≡ true → fieldForm (listOf (n + 1) (set (f .values) n (held v))) ≡ true
       push-form k =
           let z : all (eqZ (pos 0)) (drop n (f .values)) ≡ true = rw (form-of k .count, ← e) at (form-of k .zeros) in
           is-form (record {
@@ -180,7 +180,7 @@ module _ (f : Field) (n i : ℕ) (e : n ≡ length (members f)) (l : length (f .
     pub without-view : viewField (listOf (n - 1) (set vs j (pos 0))) ≡ S.list (dropAt i (members f))
     without-view = list-view (n - 1) (set vs j (pos 0)) ∙ ap S.list (rw moved (take-at (dropAt i (members f)) (drop n (f .values) ++ (pos 0 ∷ [])) (n - 1) less))
 
-    pub without-form : isForm f ≡ true → isForm (listOf (n - 1) (set vs j (pos 0))) ≡ true
+    pub without-form : fieldForm f ≡ true → fieldForm (listOf (n - 1) (set vs j (pos 0))) ≡ true
     without-form k =
         let z : all (eqZ (pos 0)) (drop n (f .values)) ≡ true = rw (form-of k .count, ← e) at (form-of k .zeros) in
         is-form (record {

@@ -20,7 +20,7 @@ use Rattle.rules.specs.Values.{eqZ, fits32, fieldOk, kindOfField, valuesOf}
 use Rattle.rules.specs.Changes.{Kind, change, fieldOf}
 use Rattle.field.specs.declared.Field.{Field}
 use Rattle.field.specs.declared.Applied.{Applied}
-use Rattle.field.specs.View.{viewField, viewApplied, isForm, outcomeNumber, Exact}
+use Rattle.field.specs.View.{viewField, viewApplied, fieldForm, outcomeNumber, Exact}
 use Rattle.field.proofs.Signed.{held}
 use Rattle.field.proofs.ViewLaws.{members, first-values, few, split, Form, form-of}
 
@@ -41,8 +41,8 @@ made k n l = record { kind = k; count = n; values = l }
 same-parts : (f g : Field) → f .kind ≡ g .kind → f .count ≡ g .count → f .values ≡ g .values → f ≡ g
 same-parts f g a b c = let e : made (f .kind) (f .count) (f .values) ≡ made (g .kind) (g .count) (g .values) = rw (a, b, c) in e
 
-pub one-form : (f g : Field) → length (f .values) ≡ memberLimit → length (g .values) ≡ memberLimit → isForm f ≡ true → isForm g ≡ true → viewField f ≡ viewField g → f ≡ g
-one-form f g l m h k e =
+pub field-unique : (f g : Field) → length (f .values) ≡ memberLimit → length (g .values) ≡ memberLimit → fieldForm f ≡ true → fieldForm g ≡ true → viewField f ≡ viewField g → f ≡ g
+field-unique f g l m h k e =
     let a = form-of h in
     let b = form-of k in
     same-parts f g (a .kind ∙ ap kindOfField e ∙ sym (b .kind)) (a .count ∙ rw e (sym (b .count))) (values-of f l a ∙ rw e (sym (values-of g m b)))
@@ -76,18 +76,18 @@ module _ (f : Field) (a : Applied) (k : Kind) (v : ℤ) (w : SFits w32 v) (e : v
   answer-number = x .number ∙ rw (e, toZ-ofZ w)
 
 -- ── the form computes ──
-two-members : isForm (record { kind = 2; count = 2; values = pos 7 ∷ negsuc 0 ∷ pos 0 ∷ pos 0 ∷ pos 0 ∷ pos 0 ∷ [] }) ≡ true
-unfolding isForm viewField
+two-members : fieldForm (record { kind = 2; count = 2; values = pos 7 ∷ negsuc 0 ∷ pos 0 ∷ pos 0 ∷ pos 0 ∷ pos 0 ∷ [] }) ≡ true
+unfolding fieldForm viewField
 two-members = refl
 
-left-behind : isForm (record { kind = 2; count = 2; values = pos 7 ∷ negsuc 0 ∷ pos 5 ∷ pos 0 ∷ pos 0 ∷ pos 0 ∷ [] }) ≡ false
-unfolding isForm viewField
+left-behind : fieldForm (record { kind = 2; count = 2; values = pos 7 ∷ negsuc 0 ∷ pos 5 ∷ pos 0 ∷ pos 0 ∷ pos 0 ∷ [] }) ≡ false
+unfolding fieldForm viewField
 left-behind = refl
 
-seven-counted : isForm (record { kind = 2; count = 7; values = pos 1 ∷ pos 2 ∷ pos 3 ∷ pos 4 ∷ pos 5 ∷ pos 6 ∷ [] }) ≡ false
-unfolding isForm viewField
+seven-counted : fieldForm (record { kind = 2; count = 7; values = pos 1 ∷ pos 2 ∷ pos 3 ∷ pos 4 ∷ pos 5 ∷ pos 6 ∷ [] }) ≡ false
+unfolding fieldForm viewField
 seven-counted = refl
 
-odd-kind : isForm (record { kind = 3; count = 0; values = pos 0 ∷ pos 0 ∷ pos 0 ∷ pos 0 ∷ pos 0 ∷ pos 0 ∷ [] }) ≡ false
-unfolding isForm viewField
+odd-kind : fieldForm (record { kind = 3; count = 0; values = pos 0 ∷ pos 0 ∷ pos 0 ∷ pos 0 ∷ pos 0 ∷ pos 0 ∷ [] }) ≡ false
+unfolding fieldForm viewField
 odd-kind = refl

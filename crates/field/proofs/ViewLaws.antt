@@ -15,7 +15,7 @@ use Rattle.rules.specs.Lists.{all}
 use Rattle.rules.specs.Values as S
 use Rattle.rules.specs.Values.{eqZ, kindOfField, valuesOf}
 use Rattle.field.specs.declared.Field.{Field}
-use Rattle.field.specs.View.{viewField, isForm}
+use Rattle.field.specs.View.{viewField, fieldForm}
 
 -- the values that count
 abbrev pub members : Field → List ℤ
@@ -60,13 +60,13 @@ pub record Form (f : Field) : Type 0 where
   pub count : f .count ≡ length (members f)
   pub zeros : all (eqZ (pos 0)) (drop (f .count) (f .values)) ≡ true
 
-pub form-of : {f : Field} → isForm f ≡ true → Form f
-unfolding isForm
+pub form-of : {f : Field} → fieldForm f ≡ true → Form f
+unfolding fieldForm
 form-of {f} h =
     let a = and-true _ _ h in
     let b = and-true _ _ (a .1) in
     record { kind = eqb-true _ _ (a .0); count = eqb-true _ _ (b .0); zeros = b .1 }
 
-pub is-form : {f : Field} → Form f → isForm f ≡ true
-unfolding isForm
+pub is-form : {f : Field} → Form f → fieldForm f ≡ true
+unfolding fieldForm
 is-form h = both _ _ (eq-eqb _ _ (h .kind)) (both _ _ (eq-eqb _ _ (h .count)) (h .zeros))

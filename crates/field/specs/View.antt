@@ -24,8 +24,8 @@ viewField f =
     (cond (eqb (f .kind) 1) (S.number (getD (f .values) 0 (pos 0))) (S.list (take (f .count) (f .values))))
 
 -- the one form of what is seen: its kind, its count, and 0 for every value that does not count
-unfoldable pub isForm : Field → Bool
-isForm f =
+unfoldable pub fieldForm : Field → Bool
+fieldForm f =
     eqb (f .kind) (kindOfField (viewField f))
     && (eqb (f .count) (length (valuesOf (viewField f))) && all (eqZ (pos 0)) (drop (f .count) (f .values)))
 

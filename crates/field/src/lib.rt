@@ -12,7 +12,7 @@ ghost use Rattle.rules.specs.Values as S;
 ghost use Rattle.rules.specs.Values.{kindOfField, valuesOf, show};
 ghost use Rattle.rules.specs.Changes as C;
 ghost use Rattle.rules.specs.Changes.{change, kindOf};
-ghost use Rattle.field.specs.View.{viewField, viewApplied, isForm, Exact, indexOf};
+ghost use Rattle.field.specs.View.{viewField, viewApplied, fieldForm, Exact, indexOf};
 
 // Absent (count 0), a number (count 1) or a list of count values. Values that do not count are 0.
 // Every method holds of other fields too, as the view reads them.
@@ -80,8 +80,8 @@ impl Field {
     pub const WORDS: usize = 8;
 
     pub fn empty() -> Self
-        ensures view { λ r. ⌜ viewField r ≡ S.absent ⌝ }
-        ensures form { λ r. ⌜ isForm r ≡ true ⌝ }
+        ensures shows { λ r. ⌜ viewField r ≡ S.absent ⌝ }
+        ensures form { λ r. ⌜ fieldForm r ≡ true ⌝ }
     {
         Self {
             kind: Field::ABSENT,
@@ -91,8 +91,8 @@ impl Field {
     }
 
     pub fn number(v: i32) -> Self
-        ensures view { λ r. ⌜ viewField r ≡ S.number v ⌝ }
-        ensures form { λ r. ⌜ isForm r ≡ true ⌝ }
+        ensures shows { λ r. ⌜ viewField r ≡ S.number v ⌝ }
+        ensures form { λ r. ⌜ fieldForm r ≡ true ⌝ }
     {
         let mut values = [0i32; Field::LIMIT];
         values[0] = v;
@@ -106,7 +106,7 @@ impl Field {
     // How many values count.
     fn len(self) -> usize
         ensures few { λ r. ⌜ r ≤ memberLimit ⌝ }
-        ensures seen { λ r. ⌜ r ≡ length (valuesOf (viewField self)) ⌝ }
+        ensures shows { λ r. ⌜ r ≡ length (valuesOf (viewField self)) ⌝ }
     {
         if self.kind == Field::ABSENT {
             return 0;
@@ -143,8 +143,8 @@ impl Field {
     // The list of the values without the one at i: those after it move down.
     fn without(self, i: usize) -> Self
         requires { ⌜ i < length (valuesOf (viewField self)) ⌝ }
-        ensures view { λ r. ⌜ viewField r ≡ S.list (dropAt i (valuesOf (viewField self))) ⌝ }
-        ensures form { λ r. ⌜ (isForm self ≡ true → isForm r ≡ true) ⌝ }
+        ensures shows { λ r. ⌜ viewField r ≡ S.list (dropAt i (valuesOf (viewField self))) ⌝ }
+        ensures form { λ r. ⌜ (fieldForm self ≡ true → fieldForm r ≡ true) ⌝ }
     {
         let n = self.len();
         let old = self.values;
@@ -164,8 +164,8 @@ impl Field {
 
     // v added to a number; absent is 0.
     fn inc(self, v: i32) -> Applied
-        ensures view { λ r. ⌜ viewApplied r ≡ change C.inc v (viewField self) ⌝ }
-        ensures form { λ r. ⌜ (isForm self ≡ true → isForm (r .field) ≡ true) ⌝ }
+        ensures shows { λ r. ⌜ viewApplied r ≡ change C.inc v (viewField self) ⌝ }
+        ensures form { λ r. ⌜ (fieldForm self ≡ true → fieldForm (r .field) ≡ true) ⌝ }
         ensures exact { λ r. ⌜ Exact self r ⌝ }
     {
         if self.kind == Field::ABSENT {
@@ -202,8 +202,8 @@ impl Field {
     // v put last, in a field that is no number; absent is the empty list, here and in the next two.
     fn push(self, v: i32) -> Applied
         requires { ⌜ (self .kind ≡ 1 → ⊥) ⌝ }
-        ensures view { λ r. ⌜ viewApplied r ≡ change C.push v (viewField self) ⌝ }
-        ensures form { λ r. ⌜ (isForm self ≡ true → isForm (r .field) ≡ true) ⌝ }
+        ensures shows { λ r. ⌜ viewApplied r ≡ change C.push v (viewField self) ⌝ }
+        ensures form { λ r. ⌜ (fieldForm self ≡ true → fieldForm (r .field) ≡ true) ⌝ }
         ensures exact { λ r. ⌜ Exact self r ⌝ }
     {
         let n = self.len();
@@ -228,8 +228,8 @@ impl Field {
     // v put last where it is no member yet.
     fn add(self, v: i32) -> Applied
         requires { ⌜ (self .kind ≡ 1 → ⊥) ⌝ }
-        ensures view { λ r. ⌜ viewApplied r ≡ change C.add v (viewField self) ⌝ }
-        ensures form { λ r. ⌜ (isForm self ≡ true → isForm (r .field) ≡ true) ⌝ }
+        ensures shows { λ r. ⌜ viewApplied r ≡ change C.add v (viewField self) ⌝ }
+        ensures form { λ r. ⌜ (fieldForm self ≡ true → fieldForm (r .field) ≡ true) ⌝ }
         ensures exact { λ r. ⌜ Exact self r ⌝ }
     {
         if self.index_of(v) < Field::LIMIT {
@@ -244,8 +244,8 @@ impl Field {
     // The first member that equals v taken out.
     fn pull(self, v: i32) -> Applied
         requires { ⌜ (self .kind ≡ 1 → ⊥) ⌝ }
-        ensures view { λ r. ⌜ viewApplied r ≡ change C.pull v (viewField self) ⌝ }
-        ensures form { λ r. ⌜ (isForm self ≡ true → isForm (r .field) ≡ true) ⌝ }
+        ensures shows { λ r. ⌜ viewApplied r ≡ change C.pull v (viewField self) ⌝ }
+        ensures form { λ r. ⌜ (fieldForm self ≡ true → fieldForm (r .field) ≡ true) ⌝ }
         ensures exact { λ r. ⌜ Exact self r ⌝ }
     {
         let i = self.index_of(v);
@@ -263,8 +263,8 @@ impl Field {
 
     // The change of a number, made to the field.
     pub fn changed(self, kind: u8, v: i32) -> Applied
-        ensures view { λ r. ⌜ viewApplied r ≡ change (kindOf kind) v (viewField self) ⌝ }
-        ensures form { λ r. ⌜ (isForm self ≡ true → isForm (r .field) ≡ true) ⌝ }
+        ensures shows { λ r. ⌜ viewApplied r ≡ change (kindOf kind) v (viewField self) ⌝ }
+        ensures form { λ r. ⌜ (fieldForm self ≡ true → fieldForm (r .field) ≡ true) ⌝ }
         ensures exact { λ r. ⌜ Exact self r ⌝ }
     {
         if kind == SET {

@@ -4,7 +4,7 @@ use mathlib.Core.Path.{_≡_}
 use mathlib.Core.Bool.{true}
 use Rattle.rules.specs.Changes as C
 use Rattle.keys.specs.View.{viewPlace}
-use Rattle.field.specs.View.{viewField, isForm}
+use Rattle.field.specs.View.{viewField, fieldForm}
 use Rattle.lists.proofs.Loops.{length-mapped}
 use Rattle.lists.proofs.Views.{Working, work-start, work-next, work-end, work-past}
 use Rattle.changes.specs.View.{viewUpdate, viewChanges}
@@ -18,7 +18,7 @@ use Rattle.changes.proofs.Update.after.Reads as after-reads
 abbrev Inv-loop : tie.InvT-loop
 Inv-loop q self count now₀ i₀ now i =
     Working viewUpdate (C.fieldAfter (viewPlace q)) count 8 (self .items) (C.run (viewChanges self) (viewPlace q) (viewField now₀)) (viewField now) i
-    × (isForm now₀ ≡ true → isForm now ≡ true)
+    × (fieldForm now₀ ≡ true → fieldForm now ≡ true)
 
 abbrev μ-loop : tie.MeasureT-loop
 μ-loop q self count now₀ i₀ now i = 8 - i

@@ -2,7 +2,7 @@
 use mathlib.Core.Path.{refl}
 use mir.Facts.{toZ-ofZ}
 use borrow.Author.Needs.{needs}
-use Rattle.field.specs.View.{viewField, isForm}
+use Rattle.field.specs.View.{viewField, fieldForm}
 use Rattle.field.proofs.Field.number.Statement.{statement}
 use Rattle.field.proofs.Field.number.Tie as tie
 
@@ -10,7 +10,7 @@ array-set-from-values : tie.Need-array-set-from-values
 array-set-from-values c = search needs
 
 returns : tie.Need-returns
-unfolding viewField isForm
+unfolding viewField fieldForm
 returns c = rw (toZ-ofZ (c .fits .v)) (refl, refl)
 
 pub number-spec : {M : Type 1} → statement M
