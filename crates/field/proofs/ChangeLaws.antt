@@ -7,7 +7,7 @@ use native.Mathlib.Numerals.{add-one}
 use native.Mathlib.Omega.{arith}
 use lib.Dec.{eqb}
 use lib.IntN.{ℤ, pos, _+ℤ_}
-use lib.ListN.{length, getD, take, drop, set, length-append, take-append-drop}
+use lib.ListN.{length, getD, take, drop, set, length-append, length-set, length-drop, take-append-drop}
 use lib.Seq.{take-suc-set, take-at, drop-at, drop-set-lt, drop-drop}
 use lib.Signed.{leZ, ltZ, mag}
 use mir.Syntax.{w32, w64}
@@ -131,6 +131,7 @@ module _ (f : Field) (v : ℤ) where
           is-form (record {
             kind = rw pushed;
             count = rw pushed (simp length-append (omega arith));
+            long = length-set (f .values) n (held v) ∙ l;
             zeros = rw (drop-set-lt (n + 1) (f .values) n (held v) (omega arith), ← drop-drop 1 n (f .values)) (all-drop (eqZ (pos 0)) 1 (drop n (f .values)) z);
           })
 
@@ -186,6 +187,7 @@ module _ (f : Field) (n i : ℕ) (e : n ≡ length (members f)) (l : length (f .
         is-form (record {
           kind = rw without-view;
           count = rw without-view (sym less);
+          long = rw moved (simp (length-append, length-drop) (omega (arith, less, few f l)));
           zeros = rw (moved, drop-at (dropAt i (members f)) (drop n (f .values) ++ (pos 0 ∷ [])) (n - 1) less) (all-snoc (eqZ (pos 0)) (drop n (f .values)) (pos 0) z refl);
         })
 

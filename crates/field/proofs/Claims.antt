@@ -29,11 +29,11 @@ zeros-are : (xs : List ℤ) → all (eqZ (pos 0)) xs ≡ true → xs ≡ replica
 zeros-are [] h = refl
 zeros-are (x ∷ xs) h = rw (← eqZ-is (pos 0) x (all-head (eqZ (pos 0)) x xs h)) (ap (λ l. pos 0 ∷ l) (zeros-are xs (all-tail (eqZ (pos 0)) x xs h)))
 
-values-of : (f : Field) → length (f .values) ≡ memberLimit → Form f → f .values ≡ members f ++ replicate (memberLimit - length (members f)) (pos 0)
-values-of f l h =
+values-of : (f : Field) → Form f → f .values ≡ members f ++ replicate (memberLimit - length (members f)) (pos 0)
+values-of f h =
     let z = zeros-are (drop (length (members f)) (f .values)) (rw (h .count) at (h .zeros)) in
-    let n : length (drop (length (members f)) (f .values)) ≡ memberLimit - length (members f) = simp length-drop (omega arith) in
-    split f l ∙ ap (λ (x : List ℤ). members f ++ x) (z ∙ ap (λ (m : ℕ). replicate m (pos 0)) n)
+    let n : length (drop (length (members f)) (f .values)) ≡ memberLimit - length (members f) = simp length-drop (omega (arith, h .long)) in
+    split f (h .long) ∙ ap (λ (x : List ℤ). members f ++ x) (z ∙ ap (λ (m : ℕ). replicate m (pos 0)) n)
 
 abbrev made : ℕ → ℕ → List ℤ → Field
 made k n l = record { kind = k; count = n; values = l }
@@ -41,11 +41,11 @@ made k n l = record { kind = k; count = n; values = l }
 same-parts : (f g : Field) → f .kind ≡ g .kind → f .count ≡ g .count → f .values ≡ g .values → f ≡ g
 same-parts f g a b c = let e : made (f .kind) (f .count) (f .values) ≡ made (g .kind) (g .count) (g .values) = rw (a, b, c) in e
 
-pub field-unique : (f g : Field) → length (f .values) ≡ memberLimit → length (g .values) ≡ memberLimit → fieldForm f ≡ true → fieldForm g ≡ true → viewField f ≡ viewField g → f ≡ g
-field-unique f g l m h k e =
+pub field-unique : (f g : Field) → fieldForm f ≡ true → fieldForm g ≡ true → viewField f ≡ viewField g → f ≡ g
+field-unique f g h k e =
     let a = form-of h in
     let b = form-of k in
-    same-parts f g (a .kind ∙ ap kindOfField e ∙ sym (b .kind)) (a .count ∙ rw e (sym (b .count))) (values-of f l a ∙ rw e (sym (values-of g m b)))
+    same-parts f g (a .kind ∙ ap kindOfField e ∙ sym (b .kind)) (a .count ∙ rw e (sym (b .count))) (values-of f a ∙ rw e (sym (values-of g b)))
 
 -- ── what is seen of a field whose values have 32 bits is a value of the rules ──
 fits-are : (z : ℤ) → SFits w32 z → fits32 z ≡ true

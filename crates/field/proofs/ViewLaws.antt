@@ -58,15 +58,17 @@ module _ (f : Field) where
 pub record Form (f : Field) : Type 0 where
   pub kind : f .kind ≡ kindOfField (viewField f)
   pub count : f .count ≡ length (members f)
+  pub long : length (f .values) ≡ memberLimit
   pub zeros : all (eqZ (pos 0)) (drop (f .count) (f .values)) ≡ true
 
 pub form-of : {f : Field} → fieldForm f ≡ true → Form f
 unfolding fieldForm
 form-of {f} h =
     let a = and-true _ _ h in
-    let b = and-true _ _ (a .1) in
-    record { kind = eqb-true _ _ (a .0); count = eqb-true _ _ (b .0); zeros = b .1 }
+    let b = and-true _ _ (a .0) in
+    let c = and-true _ _ (b .0) in
+    record { kind = eqb-true _ _ (c .0); count = eqb-true _ _ (c .1); long = eqb-true _ _ (b .1); zeros = a .1 }
 
 pub is-form : {f : Field} → Form f → fieldForm f ≡ true
 unfolding fieldForm
-is-form h = both _ _ (eq-eqb _ _ (h .kind)) (both _ _ (eq-eqb _ _ (h .count)) (h .zeros))
+is-form h = both _ _ (both _ _ (both _ _ (eq-eqb _ _ (h .kind)) (eq-eqb _ _ (h .count))) (eq-eqb _ _ (h .long))) (h .zeros)

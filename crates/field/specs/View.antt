@@ -26,8 +26,8 @@ viewField f =
 -- the one form of what is seen: its kind, its count, and 0 for every value that does not count
 unfoldable pub fieldForm : Field → Bool
 fieldForm f =
-    eqb (f .kind) (kindOfField (viewField f))
-    && (eqb (f .count) (length (valuesOf (viewField f))) && all (eqZ (pos 0)) (drop (f .count) (f .values)))
+    eqb (f .kind) (kindOfField (viewField f)) && eqb (f .count) (length (valuesOf (viewField f)))
+    && eqb (length (f .values)) memberLimit && all (eqZ (pos 0)) (drop (f .count) (f .values))
 
 -- the index of the first member that equals v, or the limit where none does
 unfoldable pub indexOf : ℤ → List ℤ → ℕ
