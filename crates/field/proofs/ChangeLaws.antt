@@ -1,33 +1,33 @@
 -- What each change answers in each of its cases: a law a case, whose premises are the tests that lead there and what the callees answered.
 use mathlib.Core.Path.{_≡_, refl, sym, _∙_, ap}
-use mathlib.Core.Bool.{Bool, true, false, cond, not, true≢false}
-use mathlib.Core.List.{List, [], _∷_, _++_, append-assoc}
+use mathlib.Core.Bool.{true, false, cond, not, true≢false}
+use mathlib.Core.List.{List, [], _∷_, _++_}
 use Prim.Native.Nat.{ℕ, _+_, _-_, _≤_, _<_, _^_}
 use native.Mathlib.Numerals.{add-one}
 use native.Mathlib.Omega.{arith}
 use lib.Dec.{eqb}
 use lib.IntN.{ℤ, pos, _+ℤ_}
-use lib.ListN.{length, getD, take, drop, set, length-append, length-set, length-drop, take-append-drop}
-use lib.Seq.{take-suc-set, take-at, drop-at, drop-set-lt, drop-drop}
+use lib.ListN.{length, getD, take, set, length-append}
+use lib.Seq.{take-suc-set}
 use lib.Signed.{leZ, ltZ, mag}
 use mir.Syntax.{w32, w64}
 use mir.Val.{SFits, toZ, ofZ}
 use mir.Facts.{toZ-ofZ}
 use borrow.Author.Tests.{ne-eqb, le-leb, lt-leb}
 use Rattle.rules.proofs.Laws.{byCase}
-use Rattle.rules.proofs.Tests.{all-snoc, all-append}
 use Rattle.rules.specs.Limits.{memberLimit, lowest, highest}
-use Rattle.rules.specs.Lists.{all, dropAt}
+use Rattle.rules.specs.Lists.{dropAt}
 use Rattle.rules.specs.Values as S
 use Rattle.rules.specs.Values.{eqZ, fits32, kindOfField, valuesOf}
 use Rattle.rules.specs.Changes as C
 use Rattle.rules.specs.Changes.{Kind, kindOf, kindNumber, change, putLast, member, pullFirst, becomes}
-use Rattle.lists.proofs.Loops.{Removing, remove-start, remove-end, dropAt-append, length-dropAt}
+use Rattle.lists.proofs.Loops.{Removing, remove-start, remove-end, length-dropAt, take-removed}
+use Rattle.lists.proofs.Forms.{form-push, form-remove}
 use Rattle.field.specs.declared.Field.{Field}
 use Rattle.field.specs.declared.Applied.{Applied}
 use Rattle.field.specs.View.{viewField, viewApplied, fieldForm, indexOf}
-use Rattle.field.proofs.Signed.{held, held-is, in-range, leZ-is}
-use Rattle.field.proofs.ViewLaws.{members, view-absent, view-number, view-list, byKind, first-values, few, split, form-of, is-form}
+use Rattle.field.proofs.Signed.{held, held-is, in-range, fits-are, leZ-is}
+use Rattle.field.proofs.ViewLaws.{members, view-absent, view-number, view-list, byKind, first-values, few, form-of, is-form}
 use Rattle.field.proofs.Members.{found, not-found}
 
 abbrev answer : ℕ → Field → Applied
@@ -39,9 +39,6 @@ listOf n l = record { kind = 2; count = n; values = l }
 list-view : (n : ℕ) (l : List ℤ) → viewField (listOf n l) ≡ S.list (take n l)
 unfolding viewField
 list-view n l = refl
-
-all-drop : {A : Type 0} (p : A → Bool) (n : ℕ) (l : List A) → all p l ≡ true → all p (drop n l) ≡ true
-all-drop p n l h = all-append p (take n l) (drop n l) (rw (take-append-drop n l) h) .1
 
 -- ── what a change makes of a value that is no number: absent is as the empty list ──
 module _ (v : ℤ) where
@@ -127,12 +124,11 @@ module _ (f : Field) (v : ℤ) where
 
       pub push-form : fieldForm f ≡ true → fieldForm (listOf (n + 1) (set (f .values) n (held v))) ≡ true
       push-form k =
-          let z : all (eqZ (pos 0)) (drop n (f .values)) ≡ true = rw (form-of k .count, ← e) at (form-of k .zeros) in
+          let t = rw (form-of k .count, ← e) at (form-of k .table) in
           is-form (record {
             kind = rw pushed;
             count = rw pushed (simp length-append (omega arith));
-            long = length-set (f .values) n (held v) ∙ l;
-            zeros = rw (drop-set-lt (n + 1) (f .values) n (held v) (omega arith), ← drop-drop 1 n (f .values)) (all-drop (eqZ (pos 0)) 1 (drop n (f .values)) z);
+            table = form-push memberLimit fits32 (eqZ (pos 0)) n (f .values) (held v) h (rw (toZ-ofZ w) (fits-are v w)) t;
           })
 
   -- ── add and pull: i is what the search for v answered ──
@@ -169,26 +165,19 @@ module _ (f : Field) (n i : ℕ) (e : n ≡ length (members f)) (l : length (f .
   without-start = remove-start l (omega (arith, few f l))
 
   module _ (vs : List ℤ) (j : ℕ) (inv : Removing (pos 0) i (f .values) memberLimit vs j) (p : memberLimit ≤ j + 1) where
-    moved : set vs j (pos 0) ≡ dropAt i (members f) ++ (drop n (f .values) ++ (pos 0 ∷ []))
-    moved =
-        remove-end inv p
-        ∙ ap (λ (x : List ℤ). dropAt i x ++ (pos 0 ∷ [])) (split f l)
-        ∙ rw (← e, dropAt-append i (members f) (drop n (f .values)) h) (append-assoc (dropAt i (members f)) (drop n (f .values)) (pos 0 ∷ []))
-
-    less : length (dropAt i (members f)) ≡ n - 1
-    less = omega (arith, length-dropAt i (members f) h)
-
     pub without-view : viewField (listOf (n - 1) (set vs j (pos 0))) ≡ S.list (dropAt i (members f))
-    without-view = list-view (n - 1) (set vs j (pos 0)) ∙ ap S.list (rw moved (take-at (dropAt i (members f)) (drop n (f .values) ++ (pos 0 ∷ [])) (n - 1) less))
+    without-view =
+        let k : n ≤ length (f .values) = omega (arith, few f l) in
+        let q : take n (f .values) ≡ members f = rw e (first-values f l) in
+        list-view (n - 1) (set vs j (pos 0)) ∙ ap S.list (rw (remove-end inv p, ← q) (take-removed i n (f .values) (pos 0) (omega arith) k))
 
     pub without-form : fieldForm f ≡ true → fieldForm (listOf (n - 1) (set vs j (pos 0))) ≡ true
     without-form k =
-        let z : all (eqZ (pos 0)) (drop n (f .values)) ≡ true = rw (form-of k .count, ← e) at (form-of k .zeros) in
+        let t = rw (form-of k .count, ← e) at (form-of k .table) in
         is-form (record {
           kind = rw without-view;
-          count = rw without-view (sym less);
-          long = rw moved (simp (length-append, length-drop) (omega (arith, less, few f l)));
-          zeros = rw (moved, drop-at (dropAt i (members f)) (drop n (f .values) ++ (pos 0 ∷ [])) (n - 1) less) (all-snoc (eqZ (pos 0)) (drop n (f .values)) (pos 0) z refl);
+          count = rw without-view (omega (arith, length-dropAt i (members f) h));
+          table = rw (remove-end inv p) (form-remove memberLimit fits32 (eqZ (pos 0)) i n (f .values) (pos 0) (omega arith) refl t);
         })
 
 -- ── the change of a number ──

@@ -12,9 +12,9 @@ use mir.Facts.{toZ-ofZ, sfits-widen}
 use borrow.Author.Needs.{sfits-of}
 use borrow.Author.Tests.{ltb-true, ltb-false, le-leb, lt-leb}
 use Rattle.rules.proofs.KeptTest.{eqZ-is, eqZ-refl}
-use Rattle.rules.proofs.Laws.{byCase}
+use Rattle.rules.proofs.Laws.{byCase, both}
 use Rattle.rules.specs.Limits.{lowest, highest}
-use Rattle.rules.specs.Values.{eqZ}
+use Rattle.rules.specs.Values.{eqZ, fits32}
 
 -- a number as it is read back from the bits that a local holds
 abbrev pub held : ℤ → ℤ
@@ -56,6 +56,11 @@ module _ (a b : ℤ) (h : SFits w32 a) (i : SFits w32 b) where
 pub in-range : (s : ℤ) → ltZ s lowest ≡ false → ltZ highest s ≡ false → SFits w32 s
 in-range (pos n) lo hi = record { sfits = omega (arith, ltb-false 2147483647 n hi) }
 in-range (negsuc n) lo hi = record { sfits = omega (arith, ltb-false 2147483647 n lo) }
+
+pub fits-are : (z : ℤ) → SFits w32 z → fits32 z ≡ true
+unfolding fits32
+fits-are (pos n) h = le-leb n 2147483647 (omega (arith, h .sfits))
+fits-are (negsuc n) h = both _ _ (le-leb n 2147483647 (omega (arith, h .sfits))) refl
 
 -- the rules compare by `leZ`
 leb-is : (a b : ℕ) → leb b a ≡ not (ltb a b)

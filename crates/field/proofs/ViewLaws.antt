@@ -1,7 +1,7 @@
 -- What is seen of a field, kind by kind, and what its form says.
-use mathlib.Core.Path.{_≡_, refl, sym, _∙_, ap}
+use mathlib.Core.Path.{_≡_, refl, ap}
 use mathlib.Core.Bool.{true}
-use mathlib.Core.List.{List, _++_}
+use mathlib.Core.List.{List}
 use Prim.Native.Nat.{_≤_}
 use native.Mathlib.Omega.{arith}
 use lib.Dec.{eqb}
@@ -11,9 +11,9 @@ use lib.Seq.{take-suc, take-at}
 use borrow.Author.Tests.{eqb-true, eqb-false, eq-eqb, ne-eqb}
 use Rattle.rules.proofs.Laws.{byCase, and-true, both}
 use Rattle.rules.specs.Limits.{memberLimit}
-use Rattle.rules.specs.Lists.{all}
 use Rattle.rules.specs.Values as S
-use Rattle.rules.specs.Values.{eqZ, kindOfField, valuesOf}
+use Rattle.rules.specs.Values.{eqZ, fits32, kindOfField, valuesOf}
+use Rattle.lists.specs.Table.{tableForm}
 use Rattle.field.specs.declared.Field.{Field}
 use Rattle.field.specs.View.{viewField, fieldForm}
 
@@ -51,24 +51,19 @@ module _ (f : Field) where
     pub few : length (members f) ≤ memberLimit
     few = omega (arith, simp length-take at (ap length first-values))
 
-    pub split : f .values ≡ members f ++ drop (length (members f)) (f .values)
-    split = let n = length (members f) in sym (take-append-drop n (f .values)) ∙ ap (λ (x : List ℤ). x ++ drop n (f .values)) first-values
-
 -- ── the form ──
 pub record Form (f : Field) : Type 0 where
   pub kind : f .kind ≡ kindOfField (viewField f)
   pub count : f .count ≡ length (members f)
-  pub long : length (f .values) ≡ memberLimit
-  pub zeros : all (eqZ (pos 0)) (drop (f .count) (f .values)) ≡ true
+  pub table : tableForm memberLimit fits32 (eqZ (pos 0)) (f .count) (f .values) ≡ true
 
 pub form-of : {f : Field} → fieldForm f ≡ true → Form f
 unfolding fieldForm
 form-of {f} h =
     let a = and-true _ _ h in
     let b = and-true _ _ (a .0) in
-    let c = and-true _ _ (b .0) in
-    record { kind = eqb-true _ _ (c .0); count = eqb-true _ _ (c .1); long = eqb-true _ _ (b .1); zeros = a .1 }
+    record { kind = eqb-true _ _ (b .0); count = eqb-true _ _ (b .1); table = a .1 }
 
 pub is-form : {f : Field} → Form f → fieldForm f ≡ true
 unfolding fieldForm
-is-form h = both _ _ (both _ _ (both _ _ (eq-eqb _ _ (h .kind)) (eq-eqb _ _ (h .count))) (eq-eqb _ _ (h .long))) (h .zeros)
+is-form h = both _ _ (both _ _ (eq-eqb _ _ (h .kind)) (eq-eqb _ _ (h .count))) (h .table)

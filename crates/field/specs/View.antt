@@ -5,14 +5,15 @@ use mathlib.Core.Bool.{Bool, _&&_, cond}
 use mathlib.Core.List.{List, [], _∷_}
 use lib.Dec.{eqb}
 use lib.IntN.{ℤ, pos}
-use lib.ListN.{drop, getD, length, take}
+use lib.ListN.{getD, length, take}
 use Rattle.rules.specs.Limits.{memberLimit}
-use Rattle.rules.specs.Lists.{all, caseOf}
+use Rattle.rules.specs.Lists.{caseOf}
 use Rattle.rules.specs.Refusals.{Refusal, refusalNumber, wrongKind, seventhMember, sumTooLarge}
 use Rattle.rules.specs.Values as S
-use Rattle.rules.specs.Values.{eqZ, kindOfField, valuesOf}
+use Rattle.rules.specs.Values.{eqZ, fits32, kindOfField, valuesOf}
 use Rattle.rules.specs.Changes.{Outcome, becomes, fails, fieldOf}
 use Rattle.lists.specs.Find.{firstAt}
+use Rattle.lists.specs.Table.{tableForm}
 use Rattle.field.specs.declared.Field.{Field}
 use Rattle.field.specs.declared.Applied.{Applied}
 
@@ -23,11 +24,12 @@ viewField f =
     cond (eqb (f .kind) 0) S.absent
     (cond (eqb (f .kind) 1) (S.number (getD (f .values) 0 (pos 0))) (S.list (take (f .count) (f .values))))
 
--- the one form of what is seen: its kind, its count, and 0 for every value that does not count
+-- the one form of what is seen: its kind, its count, 32 bits for each value that counts, and 0 for the rest of the six
 unfoldable pub fieldForm : Field → Bool
 fieldForm f =
-    eqb (f .kind) (kindOfField (viewField f)) && eqb (f .count) (length (valuesOf (viewField f)))
-    && eqb (length (f .values)) memberLimit && all (eqZ (pos 0)) (drop (f .count) (f .values))
+    eqb (f .kind) (kindOfField (viewField f))
+    && eqb (f .count) (length (valuesOf (viewField f)))
+    && tableForm memberLimit fits32 (eqZ (pos 0)) (f .count) (f .values)
 
 -- the index of the first member that equals v, or the limit where none does
 unfoldable pub indexOf : ℤ → List ℤ → ℕ

@@ -15,7 +15,7 @@ use Rattle.rules.proofs.Laws.{byCase, both}
 use Rattle.lists.specs.Table.{counted}
 use Rattle.lists.proofs.Views.{Seeking, counted-next, counted-gone, counted-at, counted-over}
 use Rattle.lists.proofs.Forms.{form-empty, array-empty, array-at, array-set}
-use Rattle.lists.proofs.Indexed.{at-index, past-index, set-index, AllAre, all-same}
+use Rattle.lists.proofs.Indexed.{at-index, past-index, set-index, copies-same}
 use Rattle.keys.specs.View.{viewPlace, noPlace, viewKey, viewKeys}
 use Rattle.keys.specs.Form.{isBlank, keyForm, keysForm}
 use Rattle.keys.specs.declared.Place.{Place}
@@ -88,13 +88,9 @@ module _ {k : Key} {i : ℕ} (inv : Repeating k i) where
   repeat-past h = sym (inv .rest ∙ ap S.twice (counted-gone viewPlace (k .count) (k .places) i 4 (inv .long) (inr h)))
 
 -- ── the table ──
-all-copies : (n : ℕ) (k : Key) → viewKey k ≡ [] → AllAre [] (map viewKey (replicate n k))
-all-copies Prim.Native.Nat.zero k e = tt
-all-copies (Prim.Native.Nat.suc n) k e = (e, all-copies n k e)
-
 pub keys-empty : (k : Key) → viewKey k ≡ [] → viewKeys (record { all = replicate 32 k }) ≡ (λ n. [])
 unfolding viewKeys
-keys-empty k e = fun-ext (λ n. all-same [] (map viewKey (replicate 32 k)) n (all-copies 32 k e))
+keys-empty k e = fun-ext (λ n. copies-same viewKey [] 32 k n e)
 
 pub keys-form : (k : Key) → keyForm k ≡ true → keysForm (record { all = replicate 32 k }) ≡ true
 unfolding keysForm

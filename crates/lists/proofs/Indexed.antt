@@ -4,7 +4,7 @@ use native.Mathlib.Omega.{arith}
 use mathlib.Core.Path.{_≡_, refl, sym, _∙_, ap, fun-ext}
 use mathlib.Core.Bool.{Bool, true, false, cond, true≢false}
 use mathlib.Core.List.{List, [], _∷_, map}
-use lib.ListN.{length, getD, set, drop, length-map, List·getD-map, List·getD-eq-default, drop-of-length-le}
+use lib.ListN.{length, getD, replicate, set, drop, length-map, List·getD-map, List·getD-eq-default, drop-of-length-le}
 use lib.Seq.{getD-set-same, getD-set-other}
 use lib.Dec.{eqb}
 use borrow.Author.Tests.{eqb-true, eqb-false}
@@ -30,15 +30,11 @@ module _ {A B : Type 0} (view : A → B) (e : B) (xs : List A) where
       (λ t. rw (t, eqb-true j i t) (getD-set-same (map view xs) i (view a) e (rw (length-map xs view) h)))
       (λ t. rw t (getD-set-other (map view xs) i j (view a) e (eqb-false j i t))))
 
--- a table of which every entry is seen as e
-abbrev pub AllAre : {A : Type 0} → A → List A → Type 0
-AllAre e [] = Unit {0}
-AllAre e (x ∷ l) = (x ≡ e) × AllAre e l
-
-pub all-same : {A : Type 0} (e : A) (l : List A) (i : ℕ) → AllAre e l → getD l i e ≡ e
-all-same e [] i h = refl
-all-same e (x ∷ l) zero h = h .0
-all-same e (x ∷ l) (suc i) h = all-same e l i (h .1)
+-- a table of copies of one entry that is seen as e
+pub copies-same : {A B : Type 0} (view : A → B) (e : B) (n : ℕ) (a : A) (i : ℕ) → view a ≡ e → getD (map view (replicate n a)) i e ≡ e
+copies-same view e zero a i h = refl
+copies-same view e (suc n) a zero h = h
+copies-same view e (suc n) a (suc i) h = copies-same view e n a i h
 
 -- a test of every entry, at one of them, and after one is written
 pub all-index : {A : Type 0} (p : A → Bool) (l : List A) (i : ℕ) (d : A) → i < length l → all p l ≡ true → p (getD l i d) ≡ true

@@ -2,13 +2,13 @@
 -- Assumes nothing.
 use mathlib.Core.Path.{_≡_, refl, _∙_, ap, sym}
 use mathlib.Core.Bool.{Bool, true, false}
-use mathlib.Core.List.{List, [], _∷_, _++_, append-nil, map}
-use Prim.Native.Nat.{ℕ, zero, suc, _+_, _≤_, _<_}
+use mathlib.Core.List.{List, [], _∷_, _++_, append-nil, append-assoc, map}
+use Prim.Native.Nat.{ℕ, zero, suc, _+_, _-_, _≤_, _<_}
 use native.Mathlib.Numerals.{add-one}
 use native.Mathlib.Nat.{not-suc-le-zero, le-of-suc-le-suc}
 use native.Mathlib.Omega.{arith}
-use lib.ListN.{length, getD, take, drop, set, drop-of-length-le, length-take, length-drop, length-append, length-map, List·getD-append}
-use lib.Seq.{drop-cons, getD-take, set-at, append-snoc, take-suc, length-take-le, take-all, getD-at}
+use lib.ListN.{take-append-drop, length, getD, take, drop, set, drop-of-length-le, length-take, length-drop, length-append, length-map, List·getD-append}
+use lib.Seq.{drop-cons, getD-take, set-at, append-snoc, take-suc, length-take-le, take-all, take-at, drop-at, getD-at}
 use Rattle.rules.specs.Lists.{dropAt}
 use Rattle.lists.specs.Find.{firstAt}
 
@@ -72,6 +72,25 @@ pub dropAt-append : {A : Type 0} (i : ℕ) (xs ys : List A) → i < length xs �
 dropAt-append i [] ys h = absurd (not-suc-le-zero h)
 dropAt-append zero (x ∷ xs) ys h = refl
 dropAt-append (suc i) (x ∷ xs) ys h = ap (λ l. x ∷ l) (dropAt-append i xs ys (le-of-suc-le-suc h))
+
+-- of a table of which n entries count, one of those is taken out
+module _ {A : Type 0} (i n : ℕ) (xs : List A) (d : A) (h : i < n) (m : n ≤ length xs) where
+  parted : dropAt i xs ++ (d ∷ []) ≡ dropAt i (take n xs) ++ (drop n xs ++ (d ∷ []))
+  parted =
+      let k : i < length (take n xs) = simp length-take (omega arith) in
+      ap (λ (l : List A). dropAt i l ++ (d ∷ [])) (sym (take-append-drop n xs))
+      ∙ rw (dropAt-append i (take n xs) (drop n xs) k) (append-assoc (dropAt i (take n xs)) (drop n xs) (d ∷ []))
+
+  fewer : length (dropAt i (take n xs)) ≡ n - 1
+  fewer =
+      let k : length (take n xs) ≡ n = length-take-le n xs m in
+      omega (arith, length-dropAt i (take n xs) (omega arith))
+
+  pub take-removed : take (n - 1) (dropAt i xs ++ (d ∷ [])) ≡ dropAt i (take n xs)
+  take-removed = rw parted (take-at (dropAt i (take n xs)) (drop n xs ++ (d ∷ [])) (n - 1) fewer)
+
+  pub drop-removed : drop (n - 1) (dropAt i xs ++ (d ∷ [])) ≡ drop n xs ++ (d ∷ [])
+  drop-removed = rw parted (drop-at (dropAt i (take n xs)) (drop n xs ++ (d ∷ [])) (n - 1) fewer)
 
 module _ {A : Type 0} (d : A) where
   unmoved : (i : ℕ) (xs : List A) → i < length xs → xs ≡ filled (dropAt i xs ++ (d ∷ [])) xs i

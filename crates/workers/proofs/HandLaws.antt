@@ -16,7 +16,7 @@ use Rattle.rules.proofs.Tests.{all-head, all-tail}
 use Rattle.lists.specs.Table.{counted}
 use Rattle.lists.proofs.Views.{Seeking}
 use Rattle.lists.proofs.Forms.{array-empty, array-at, array-set}
-use Rattle.lists.proofs.Indexed.{at-index, past-index, set-index, all-same, any-index}
+use Rattle.lists.proofs.Indexed.{at-index, past-index, set-index, copies-same, any-index}
 use Rattle.workers.specs.View.{viewHand, viewHands}
 use Rattle.workers.specs.Form.{handForm, handsForm}
 use Rattle.workers.specs.declared.Hand.{Hand}
@@ -54,7 +54,7 @@ module _ (h : Hand) where
 -- ── the table ──
 pub hands-empty : (h : Hand) → viewHand h ≡ M.empty → viewHands (record { all = h ∷ h ∷ h ∷ h ∷ [] }) ≡ (λ w. M.empty)
 unfolding viewHands
-hands-empty h e = fun-ext (λ w. all-same M.empty (map viewHand (h ∷ h ∷ h ∷ h ∷ [])) w (e, (e, (e, (e, tt)))))
+hands-empty h e = fun-ext (λ w. copies-same viewHand M.empty 4 h w e)
 
 pub hands-form : (h : Hand) → handForm h ≡ true → handsForm (record { all = h ∷ h ∷ h ∷ h ∷ [] }) ≡ true
 unfolding handsForm

@@ -1,0 +1,2 @@
+-- Laws of the data store.
+pub mod StoreLaws

@@ -1,0 +1,2 @@
+-- The data store as the rules see it.
+pub mod View

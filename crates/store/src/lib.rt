@@ -1,0 +1,98 @@
+// The data store: the field of every place.
+ghost use mathlib.Core.Path.{_≡_};
+ghost use mathlib.Core.Bool.{true, cond};
+ghost use mathlib.Core.List.{[], _∷_};
+ghost use Rattle.rules.specs.Values.{absent, inRange};
+ghost use Rattle.rules.specs.Changes.{follow};
+ghost use Rattle.keys.specs.View.{viewPlace};
+ghost use Rattle.field.specs.View.{viewField, fieldForm};
+ghost use Rattle.changes.specs.View.{viewUpdate, viewChanges};
+ghost use Rattle.store.specs.View.{indexOf, ranged, viewStore, storeForm};
+use changes::Changes;
+use changes::Update;
+use field::Field;
+use keys::Place;
+
+// Field f of document d stands at 4 d + f.
+pub struct Store {
+    pub fields: [Field; 256],
+}
+
+// Where a place's field stands, past the end if there is no such place.
+fn index_of(q: Place) -> usize
+    ensures { λ r. ⌜ r ≡ cond (inRange (viewPlace q)) (indexOf (viewPlace q)) 256 ⌝ }
+{
+    let document = q.document as usize;
+    let field = q.field as usize;
+    if Store::DOCUMENTS <= document {
+        return Store::LIMIT;
+    }
+    if Store::FIELDS <= field {
+        return Store::LIMIT;
+    }
+    Store::FIELDS * document + field
+}
+
+impl Store {
+    pub const DOCUMENTS: usize = 64;
+
+    pub const FIELDS: usize = 4;
+
+    pub const LIMIT: usize = 256;
+
+    pub fn empty() -> Self
+        ensures shows { λ r. ⌜ viewStore r ≡ (λ q. absent) ⌝ }
+        ensures form { λ r. ⌜ storeForm r ≡ true ⌝ }
+    {
+        let f = Field::empty();
+        Self {
+            fields: [f; Self::LIMIT],
+        }
+    }
+
+    pub fn field(self, q: Place) -> Field
+        ensures shows { λ r. ⌜ viewField r ≡ viewStore self (viewPlace q) ⌝ }
+        ensures form { λ r. ⌜ (storeForm self ≡ true → fieldForm r ≡ true) ⌝ }
+    {
+        let i = index_of(q);
+        if Self::LIMIT <= i {
+            return Field::empty();
+        }
+        self.fields[i]
+    }
+
+    // One change made.
+    pub fn changed(self, c: Update) -> Self
+        ensures shows { λ r. ⌜ viewStore r ≡ ranged (follow (viewStore self) (viewUpdate c ∷ [])) ⌝ }
+        ensures form { λ r. ⌜ (storeForm self ≡ true → storeForm r ≡ true) ⌝ }
+    {
+        let q = c.place;
+        let i = index_of(q);
+        if Self::LIMIT <= i {
+            return self;
+        }
+        let f = self.fields[i];
+        let mut t = self;
+        t.fields[i] = c.after(q, f);
+        t
+    }
+
+    // Changes made in their order.
+    pub fn follow(self, cs: Changes) -> Self
+        ensures shows { λ r. ⌜ viewStore r ≡ ranged (follow (viewStore self) (viewChanges cs)) ⌝ }
+        ensures form { λ r. ⌜ (storeForm self ≡ true → storeForm r ≡ true) ⌝ }
+    {
+        let count = cs.count as usize;
+        let mut now = self;
+        let mut i: usize = 0;
+        while i < Changes::LIMIT {
+            if count <= i {
+                return now;
+            }
+            let c = cs.items[i];
+            now = now.changed(c);
+            i += 1;
+        }
+        now
+    }
+}
