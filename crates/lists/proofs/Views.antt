@@ -2,7 +2,7 @@
 -- Assumes nothing.
 use mathlib.Core.Path.{_≡_, refl, _∙_, ap, sym}
 use mathlib.Core.Logic.{_⊎_, inl, inr}
-use mathlib.Core.Bool.{Bool, true, false, cond}
+use mathlib.Core.Bool.{Bool, true, false, not, cond}
 use mathlib.Core.List.{List, [], _∷_, _++_, append-nil, append-assoc, map}
 use Prim.Native.Nat.{ℕ, zero, suc, _+_, _≤_, _<_, min}
 use native.Mathlib.Numerals.{add-one}
@@ -177,6 +177,14 @@ module _ {A B : Type 0} {view : A → B} {p : B → Bool} {n k : ℕ} {xs : List
 
   pub keep-past : k ≤ i → acc ≡ whole
   keep-past h = sym (inv .rest ∙ simp (counted-gone view n xs i k (inv .long) (inr h), append-nil))
+
+-- one entry of it: kept unless the test t picks it
+module _ {A : Type 0} (p t : Bool) (a : t ≡ p) (x y : A) where
+  pub unless-picked : t ≡ true → y ≡ cond (not p) x y
+  unless-picked e = rw (← a, e)
+
+  pub unless-kept : {r : A} → t ≡ false → r ≡ x → r ≡ cond (not p) x y
+  unless-kept e q = q ∙ rw (← a, e)
 
 -- ---- a loop that makes each entry of a table anew: g is what happens to an entry's view
 pub record Remaking {A B : Type 0} (view : A → B) (g : B → B) (xs : List A) (k : ℕ) (vs : List A) (j : ℕ) : Type 0 where

@@ -1,3 +1,2 @@
 -- Laws of rows.
-pub mod RowLaws
 pub mod Unique

@@ -1,4 +1,4 @@
-use Rattle.rows.proofs.RowLaws.{unless-picked, unless-kept}
+use Rattle.lists.proofs.Views.{unless-picked, unless-kept}
 use borrow.Author.Needs.{needs}
 use Rattle.rows.proofs.Rows.push_unless.Statement.{statement}
 use Rattle.rows.proofs.Rows.push_unless.Tie as tie

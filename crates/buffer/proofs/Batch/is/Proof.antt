@@ -1,0 +1,14 @@
+use borrow.Author.Needs.{needs}
+use Rattle.buffer.specs.View.{viewBatch, viewBuffer}
+use Rattle.buffer.proofs.Batch.is.Statement.{statement}
+use Rattle.buffer.proofs.Batch.is.Tie as tie
+use Rattle.buffer.proofs.Batch.is.Reads as reads
+use Rattle.buffer.proofs.Batch.is.Lts as lts
+
+-- src/lib.rt:40:5
+returns : tie.Need-returns
+unfolding viewBatch
+returns c = search needs
+
+pub is-spec : {M : Type 1} → statement M
+is-spec = tie.close (tie.spec returns)

@@ -1,0 +1,19 @@
+use Rattle.buffer.specs.View.{viewBatch, viewBuffer}
+use borrow.Author.Needs.{needs}
+use Rattle.buffer.proofs.Batch.run.Statement.{statement}
+use Rattle.buffer.proofs.Batch.run.Tie as tie
+use Rattle.buffer.proofs.Batch.run.Reads as reads
+use Rattle.buffer.proofs.Batch.run.Lts as lts
+use Rattle.changes.proofs.Changes.run.Reads as run-reads
+
+-- src/lib.rt:59:9
+run-requires : tie.Need-run-requires
+run-requires c κs = search needs
+
+-- src/lib.rt:54:5
+returns : tie.Need-returns
+unfolding viewBatch
+returns c = (c .run .ensures .0, c .run .ensures .1)
+
+pub run-spec : {M : Type 1} → statement M
+run-spec = tie.close (tie.spec run-requires returns)

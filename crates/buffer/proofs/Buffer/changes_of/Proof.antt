@@ -1,0 +1,96 @@
+use borrow.Author.Needs.{needs}
+use Prim.Native.Nat.{_-_}
+use mathlib.Core.List.{[]}
+use lib.Dec.{eqb}
+use Rattle.rules.specs.Tables as M
+use Rattle.lists.proofs.Loops.{length-mapped}
+use Rattle.lists.proofs.Views.{Seeking, seek-start, seek-hit, seek-next, seek-end, seek-past}
+use Rattle.buffer.specs.View.{viewBatch, viewBuffer}
+use Rattle.buffer.specs.Form.{batchForm}
+use Rattle.buffer.proofs.BufferLaws.{batch-form}
+use Rattle.buffer.proofs.Buffer.changes_of.Statement.{statement}
+use Rattle.buffer.proofs.Buffer.changes_of.Tie as tie
+use Rattle.buffer.proofs.Buffer.changes_of.Reads as reads
+use Rattle.buffer.proofs.Buffer.changes_of.Lts as lts
+use Rattle.buffer.proofs.Batch.is.Reads as is-reads
+use Rattle.changes.proofs.Changes.empty.Reads as empty-reads
+
+abbrev Inv-loop : tie.InvT-loop
+Inv-loop n self count i₀ i = Seeking viewBatch (λ b. eqb n (b .number)) (λ b. b .changes) [] count 32 (self .batches) (M.batchOf n (viewBuffer self)) i
+
+abbrev μ-loop : tie.MeasureT-loop
+μ-loop n self count i₀ i = 32 - i
+
+-- src/lib.rt:143:21
+cast-count : tie.Need-cast-count Inv-loop μ-loop
+cast-count c = search needs
+
+-- src/lib.rt:145:9
+loop-holds : tie.Need-loop-holds Inv-loop μ-loop
+unfolding viewBuffer
+loop-holds c = search (seek-start, length-mapped)
+
+-- src/lib.rt:147:17
+empty-requires : tie.Need-empty-requires Inv-loop μ-loop
+empty-requires c κs = search needs
+
+-- src/lib.rt:147:17
+returns : tie.Need-returns Inv-loop μ-loop
+returns c = (search (seek-end, needs), λ f. c .empty .ensures .1)
+
+-- src/lib.rt:149:21
+mul-b : tie.Need-mul-b Inv-loop μ-loop
+mul-b c = search needs
+
+-- src/lib.rt:149:21
+element-copy-out-b : tie.Need-element-copy-out-b Inv-loop μ-loop
+element-copy-out-b c = search needs
+
+-- src/lib.rt:150:16
+is-requires : tie.Need-is-requires Inv-loop μ-loop
+is-requires c κs = search needs
+
+-- src/lib.rt:151:17
+returns-2 : tie.Need-returns-2 Inv-loop μ-loop
+unfolding viewBatch batchForm
+returns-2 c = (search (seek-hit, needs), search (batch-form, needs))
+
+-- src/lib.rt:153:13
+add-i : tie.Need-add-i Inv-loop μ-loop
+add-i c = search needs
+
+-- src/lib.rt:145:9
+loop-less : tie.Need-loop-less Inv-loop μ-loop
+loop-less c = search needs
+
+-- src/lib.rt:145:9
+loop-again : tie.Need-loop-again Inv-loop μ-loop
+loop-again c = search seek-next
+
+-- src/lib.rt:155:9
+empty-requires-2 : tie.Need-empty-requires-2 Inv-loop μ-loop
+empty-requires-2 c κs = search needs
+
+-- src/lib.rt:139:5
+returns-3 : tie.Need-returns-3 Inv-loop μ-loop
+returns-3 c = (search (seek-past, needs), λ f. c .empty2 .ensures .1)
+
+pub changes-of-spec : {M : Type 1} → statement M
+changes-of-spec =
+    tie.close
+    (tie.spec
+    Inv-loop
+    μ-loop
+    cast-count
+    loop-holds
+    empty-requires
+    returns
+    mul-b
+    element-copy-out-b
+    is-requires
+    returns-2
+    add-i
+    loop-less
+    loop-again
+    empty-requires-2
+    returns-3)

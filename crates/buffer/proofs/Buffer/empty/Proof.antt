@@ -1,0 +1,22 @@
+use mathlib.Core.Path.{refl}
+use Rattle.lists.specs.Table.{counted}
+use Rattle.buffer.specs.View.{viewBatch, viewBuffer}
+use Rattle.buffer.proofs.BufferLaws.{empty-form}
+use borrow.Author.Needs.{needs}
+use Rattle.buffer.proofs.Buffer.empty.Statement.{statement}
+use Rattle.buffer.proofs.Buffer.empty.Tie as tie
+use Rattle.buffer.proofs.Buffer.empty.Reads as reads
+use Rattle.buffer.proofs.Buffer.empty.Lts as lts
+use Rattle.buffer.proofs.Batch.empty.Reads as empty-reads
+
+-- src/lib.rt:86:13
+empty-requires : tie.Need-empty-requires
+empty-requires c κs = search needs
+
+-- src/lib.rt:82:5
+returns : tie.Need-returns
+unfolding viewBuffer counted
+returns c = (refl, empty-form _ (c .empty .ensures))
+
+pub empty-spec : {M : Type 1} → statement M
+empty-spec = tie.close (tie.spec empty-requires returns)

@@ -1,0 +1,16 @@
+use borrow.Author.Needs.{needs}
+use Rattle.lists.proofs.Loops.{length-mapped}
+use Rattle.lists.proofs.Views.{counted-empty}
+use Rattle.buffer.specs.View.{viewBatch, viewBuffer}
+use Rattle.buffer.proofs.Buffer.is_empty.Statement.{statement}
+use Rattle.buffer.proofs.Buffer.is_empty.Tie as tie
+use Rattle.buffer.proofs.Buffer.is_empty.Reads as reads
+use Rattle.buffer.proofs.Buffer.is_empty.Lts as lts
+
+-- src/lib.rt:103:5
+returns : tie.Need-returns
+unfolding viewBuffer
+returns c = search (counted-empty, length-mapped, needs)
+
+pub is-empty-spec : {M : Type 1} → statement M
+is-empty-spec = tie.close (tie.spec returns)

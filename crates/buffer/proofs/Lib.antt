@@ -1,0 +1,2 @@
+-- Laws of the buffer.
+pub mod BufferLaws

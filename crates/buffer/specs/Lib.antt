@@ -1,0 +1,3 @@
+-- The buffer as the rules see it.
+pub mod View
+pub mod Form

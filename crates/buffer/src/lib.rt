@@ -1,0 +1,255 @@
+// The buffer: committed sessions that wait for a worker, oldest first.
+ghost use mathlib.Core.Path.{_≡_};
+ghost use mathlib.Core.Bool.{true, cond, not};
+ghost use mathlib.Core.List.{[]};
+ghost use lib.Dec.{eqb};
+ghost use lib.ListN.{length};
+ghost use Rattle.rules.specs.Limits.{bufferLimit};
+ghost use Rattle.rules.specs.Lists.{isEmpty, pushed};
+ghost use Rattle.rules.specs.Changes.{run, setsIt};
+ghost use Rattle.rules.specs.Tables.{isBuffered, oldest, batchOf, unbuffer, pending, changesIn};
+ghost use Rattle.keys.specs.View.{viewPlace};
+ghost use Rattle.field.specs.View.{viewField, fieldForm};
+ghost use Rattle.changes.specs.View.{viewChanges};
+ghost use Rattle.changes.specs.Form.{changesForm};
+ghost use Rattle.rows.specs.View.{viewRows};
+ghost use Rattle.buffer.specs.View.{viewBatch, viewBuffer, carry};
+ghost use Rattle.buffer.specs.Form.{batchForm, isUnused, bufferForm};
+use changes::Changes;
+use field::Field;
+use keys::Place;
+use rows::Rows;
+
+// A committed session: its number and its changes.
+pub struct Batch {
+    pub number: u32,
+    pub changes: Changes,
+}
+
+impl Batch {
+    pub fn empty() -> Self
+        ensures { λ r. ⌜ isUnused r ≡ true ⌝ }
+    {
+        let changes = Changes::empty();
+        Self { number: 0, changes }
+    }
+
+    pub fn is(self, n: u32) -> bool
+        ensures { λ r. ⌜ r ≡ eqb n (viewBatch self .number) ⌝ }
+    {
+        n == self.number
+    }
+
+    pub fn sets(self, q: Place) -> bool
+        ensures { λ r. ⌜ r ≡ setsIt (viewBatch self .changes) (viewPlace q) ⌝ }
+    {
+        let changes = self.changes;
+        changes.sets(q)
+    }
+
+    // A place's field after it.
+    pub fn run(self, q: Place, f: Field) -> Field
+        ensures shows { λ r. ⌜ viewField r ≡ run (viewBatch self .changes) (viewPlace q) (viewField f) ⌝ }
+        ensures form { λ r. ⌜ (fieldForm f ≡ true → fieldForm r ≡ true) ⌝ }
+    {
+        let changes = self.changes;
+        changes.run(q, f)
+    }
+
+    // A place's field after it, if the store does not have it yet.
+    pub fn carried(self, rows: Rows, q: Place, f: Field) -> Field
+        ensures shows { λ r. ⌜ viewField r ≡ carry (viewRows rows) (viewPlace q) (viewField f) (viewBatch self) ⌝ }
+        ensures form { λ r. ⌜ (fieldForm f ≡ true → fieldForm r ≡ true) ⌝ }
+    {
+        if rows.has(self.number) {
+            return f;
+        }
+        self.run(q, f)
+    }
+}
+
+pub struct Buffer {
+    pub count: u8,
+    pub batches: [Batch; 32],
+}
+
+impl Buffer {
+    pub const LIMIT: usize = 32;
+
+    pub fn empty() -> Self
+        ensures shows { λ r. ⌜ viewBuffer r ≡ [] ⌝ }
+        ensures form { λ r. ⌜ bufferForm r ≡ true ⌝ }
+    {
+        let b = Batch::empty();
+        Self {
+            count: 0,
+            batches: [b; Self::LIMIT],
+        }
+    }
+
+    pub fn len(self) -> u8
+        ensures { λ r. ⌜ r ≡ length (viewBuffer self) ⌝ }
+    {
+        let n = self.count;
+        if Self::LIMIT <= n as usize {
+            return Self::LIMIT as u8;
+        }
+        n
+    }
+
+    pub fn is_empty(self) -> bool
+        ensures { λ r. ⌜ r ≡ isEmpty (viewBuffer self) ⌝ }
+    {
+        self.count == 0
+    }
+
+    // The number of the oldest, 0 if there is none.
+    pub fn oldest(self) -> u32
+        ensures { λ r. ⌜ r ≡ oldest (viewBuffer self) ⌝ }
+    {
+        if self.count == 0 {
+            return 0;
+        }
+        let b = self.batches[0];
+        b.number
+    }
+
+    pub fn has(self, n: u32) -> bool
+        ensures { λ r. ⌜ r ≡ isBuffered n (viewBuffer self) ⌝ }
+    {
+        let count = self.count as usize;
+        let mut i: usize = 0;
+        while i < Self::LIMIT {
+            if count <= i {
+                return false;
+            }
+            let b = self.batches[i];
+            if b.is(n) {
+                return true;
+            }
+            i += 1;
+        }
+        false
+    }
+
+    // The changes of a buffered session, none if it is not buffered.
+    pub fn changes_of(self, n: u32) -> Changes
+        ensures shows { λ r. ⌜ viewChanges r ≡ batchOf n (viewBuffer self) ⌝ }
+        ensures form { λ r. ⌜ (bufferForm self ≡ true → changesForm r ≡ true) ⌝ }
+    {
+        let count = self.count as usize;
+        let mut i: usize = 0;
+        while i < Self::LIMIT {
+            if count <= i {
+                return Changes::empty();
+            }
+            let b = self.batches[i];
+            if b.is(n) {
+                return b.changes;
+            }
+            i += 1;
+        }
+        Changes::empty()
+    }
+
+    // One more, if there is room.
+    pub fn push(self, b: Batch) -> Self
+        ensures shows { λ r. ⌜ viewBuffer r ≡ pushed bufferLimit (viewBuffer self) (viewBatch b) ⌝ }
+        ensures form { λ r. ⌜ (batchForm b ≡ true → bufferForm self ≡ true → bufferForm r ≡ true) ⌝ }
+    {
+        let at = self.count as usize;
+        if Self::LIMIT <= at {
+            return self;
+        }
+        let mut t = self;
+        t.batches[at] = b;
+        t.count = self.count + 1;
+        t
+    }
+
+    fn push_unless(self, b: Batch, n: u32) -> Self
+        ensures shows { λ r. ⌜ viewBuffer r ≡ cond (not (eqb n (viewBatch b .number))) (pushed bufferLimit (viewBuffer self) (viewBatch b)) (viewBuffer self) ⌝ }
+        ensures form { λ r. ⌜ (batchForm b ≡ true → bufferForm self ≡ true → bufferForm r ≡ true) ⌝ }
+    {
+        if b.is(n) {
+            return self;
+        }
+        self.push(b)
+    }
+
+    // Without a session, wherever it stands.
+    pub fn without(self, n: u32) -> Self
+        ensures shows { λ r. ⌜ viewBuffer r ≡ unbuffer n (viewBuffer self) ⌝ }
+        ensures form { λ r. ⌜ (bufferForm self ≡ true → bufferForm r ≡ true) ⌝ }
+    {
+        let count = self.count as usize;
+        let mut kept = Buffer::empty();
+        let mut i: usize = 0;
+        while i < Self::LIMIT {
+            if count <= i {
+                return kept;
+            }
+            let b = self.batches[i];
+            kept = kept.push_unless(b, n);
+            i += 1;
+        }
+        kept
+    }
+
+    // Some buffered change sets or unsets the place.
+    pub fn sets(self, q: Place) -> bool
+        ensures { λ r. ⌜ r ≡ setsIt (changesIn (viewBuffer self)) (viewPlace q) ⌝ }
+    {
+        let count = self.count as usize;
+        let mut i: usize = 0;
+        while i < Self::LIMIT {
+            if count <= i {
+                return false;
+            }
+            let b = self.batches[i];
+            if b.sets(q) {
+                return true;
+            }
+            i += 1;
+        }
+        false
+    }
+
+    // A place's field after all buffered changes.
+    pub fn run(self, q: Place, f: Field) -> Field
+        ensures shows { λ r. ⌜ viewField r ≡ run (changesIn (viewBuffer self)) (viewPlace q) (viewField f) ⌝ }
+        ensures form { λ r. ⌜ (fieldForm f ≡ true → fieldForm r ≡ true) ⌝ }
+    {
+        let count = self.count as usize;
+        let mut now = f;
+        let mut i: usize = 0;
+        while i < Self::LIMIT {
+            if count <= i {
+                return now;
+            }
+            let b = self.batches[i];
+            now = b.run(q, now);
+            i += 1;
+        }
+        now
+    }
+
+    // A place's field after those that the store does not have yet.
+    pub fn carried(self, rows: Rows, q: Place, f: Field) -> Field
+        ensures shows { λ r. ⌜ viewField r ≡ run (changesIn (pending (viewRows rows) (viewBuffer self))) (viewPlace q) (viewField f) ⌝ }
+        ensures form { λ r. ⌜ (fieldForm f ≡ true → fieldForm r ≡ true) ⌝ }
+    {
+        let count = self.count as usize;
+        let mut now = f;
+        let mut i: usize = 0;
+        while i < Self::LIMIT {
+            if count <= i {
+                return now;
+            }
+            let b = self.batches[i];
+            now = b.carried(rows, q, now);
+            i += 1;
+        }
+        now
+    }
+}
