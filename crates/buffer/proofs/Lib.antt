@@ -1,2 +1,3 @@
 -- Laws of the buffer.
 pub mod BufferLaws
+pub mod Unique

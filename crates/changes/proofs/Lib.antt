@@ -1,2 +1,3 @@
 -- Laws of changes.
 pub mod ChangeLaws
+pub mod Unique

@@ -8,7 +8,7 @@ use borrow.Author.Tests.{eqb-true}
 use Rattle.rules.specs.Values as S
 use Rattle.rules.proofs.Laws.{and-true}
 use Rattle.lists.specs.Table.{counted, tableForm}
-use Rattle.lists.proofs.Forms.{table-count, table-same, array-same}
+use Rattle.lists.proofs.Forms.{table-unique, array-same}
 use Rattle.keys.specs.View.{viewPlace, viewKey, viewKeys}
 use Rattle.keys.specs.Form.{isBlank, keyForm, keysForm}
 use Rattle.keys.specs.declared.Place.{Place}
@@ -29,24 +29,15 @@ blank-is a e =
     let h = and-true (eqb (a .document) 0) (eqb (a .field) 0) e in
     λ i. record { document = eqb-true (a .document) 0 (h .0) i; field = eqb-true (a .field) 0 (h .1) i }
 
-blank-unique : (a b : Place) → isBlank a ≡ true → isBlank b ≡ true → a ≡ b
+pub blank-unique : (a b : Place) → isBlank a ≡ true → isBlank b ≡ true → a ≡ b
 blank-unique a b e f = blank-is a e ∙ sym (blank-is b f)
 
 pub key-unique : (a b : Key) → keyForm a ≡ true → keyForm b ≡ true → viewKey a ≡ viewKey b → a ≡ b
 unfolding viewKey keyForm
-key-unique a b f g e = λ i. record { count = n i; places = xs i }
+key-unique a b f g e = λ i. record { count = both .0 i; places = both .1 i }
   where
-    same : (p q : Place) → true ≡ true → true ≡ true → viewPlace p ≡ viewPlace q → p ≡ q
-    same p q u v h = place-unique p q h
-
-    n : a .count ≡ b .count
-    n = table-count 4 (λ q. true) isBlank viewPlace same blank-unique (a .count) (b .count) (a .places) (b .places) f g e
-
-    xs : a .places ≡ b .places
-    xs =
-        table-same 4 (λ q. true) isBlank viewPlace same blank-unique blank (a .count) (a .places) (b .places) f
-        (subst (λ (k : ℕ). tableForm 4 (λ q. true) isBlank k (b .places) ≡ true) (sym n) g)
-        (e ∙ ap (λ (k : ℕ). counted viewPlace k (b .places)) (sym n))
+    both : (a .count ≡ b .count) × (a .places ≡ b .places)
+    both = table-unique 4 (λ q. true) isBlank viewPlace (λ p q u v h. place-unique p q h) blank-unique blank (a .count) (b .count) (a .places) (b .places) f g e
 
 pub keys-unique : (a b : Keys) → keysForm a ≡ true → keysForm b ≡ true → viewKeys a ≡ viewKeys b → a ≡ b
 unfolding viewKeys keysForm

@@ -97,7 +97,7 @@ module _ {A : Type 0} (k : ℕ) (used unused : A → Bool) where
 
   -- ── two tables in form that show the same are equal ──
   module _ {B : Type 0} (view : A → B) (same : (a b : A) → used a ≡ true → used b ≡ true → view a ≡ view b → a ≡ b) (alike : (a b : A) → unused a ≡ true → unused b ≡ true → a ≡ b) where
-    pub table-count : (n m : ℕ) (xs ys : List A) → tableForm k used unused n xs ≡ true → tableForm k used unused m ys ≡ true → counted view n xs ≡ counted view m ys → n ≡ m
+    table-count : (n m : ℕ) (xs ys : List A) → tableForm k used unused n xs ≡ true → tableForm k used unused m ys ≡ true → counted view n xs ≡ counted view m ys → n ≡ m
     table-count n m xs ys f g e =
         let a = form-parts n xs f in
         let b = form-parts m ys g in
@@ -121,6 +121,12 @@ module _ {A : Type 0} (k : ℕ) (used unused : A → Bool) where
         go false i h q =
             let w : n ≤ i = omega (arith, leb-false (suc i) n q) in
             alike (getD xs i d) (getD ys i d) (unused-at n xs i d w h f) (unused-at n ys i d w (omega (arith, l, r)) g)
+
+    pub table-unique : (d : A) (n m : ℕ) (xs ys : List A) → tableForm k used unused n xs ≡ true → tableForm k used unused m ys ≡ true → counted view n xs ≡ counted view m ys → (n ≡ m) × (xs ≡ ys)
+    table-unique d n m xs ys f g e = (c, table-same d n xs ys f (rw (← c) at g) (e ∙ ap (λ (j : ℕ). counted view j ys) (sym c)))
+      where
+        c : n ≡ m
+        c = table-count n m xs ys f g e
 
 -- ── a table whose entries are all in use ──
 module _ {A : Type 0} (k : ℕ) (used : A → Bool) where

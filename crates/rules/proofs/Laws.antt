@@ -8,7 +8,7 @@ use lib.ListN.{length}
 use lib.Dec.{eqb}
 use lib.IntN.{negsuc, pos, ℤ}
 use borrow.Author.Tests.{eq-eqb, eqb-false, eqb-true, lt-ltb, ltb-true, ne-eqb}
-use Rattle.rules.specs.Lists.{pushed, isEmpty}
+use Rattle.rules.specs.Lists.{pushed, isEmpty, isCase, caseOf}
 use Rattle.rules.specs.Refusals.{Refusal, _⇒_, first}
 use Rattle.rules.specs.Values.{below, natOf, Place, samePlace, Field, Stock}
 use Rattle.rules.specs.Changes.{Update, fieldAfter, run, follow}
@@ -62,6 +62,11 @@ and-true false b e = absurd (true≢false (sym e))
 
 pub both : (a b : Bool) → a ≡ true → b ≡ true → a && b ≡ true
 both a b e f = rw (e, f)
+
+-- the case of a number has that number
+pub case-number : {A : Type 0} (number : A → ℕ) (e : A) (l : List A) (n : ℕ) → isCase number l n ≡ true → number (caseOf number e l n) ≡ n
+case-number number e [] n h = absurd (true≢false (sym h))
+case-number number e (a ∷ l) n h = byCase (eqb n (number a)) (λ t. rw t (sym (eqb-true n (number a) t))) (λ t. rw t (case-number number e l n (rw t at h)))
 
 pub below-is : (z : ℤ) (n : ℕ) → below z n ≡ true → natOf z < n
 below-is (pos k) n e = ltb-true k n e

@@ -1,2 +1,3 @@
 -- Laws of the data store.
 pub mod StoreLaws
+pub mod Unique
