@@ -2,3 +2,4 @@ pub mod Loops
 pub mod Views
 pub mod Indexed
 pub mod Forms
+pub mod Remake

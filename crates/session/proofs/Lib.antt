@@ -1,0 +1,5 @@
+-- Laws of a session.
+pub mod SessionLaws
+pub mod LapseLaws
+pub mod FormLaws
+pub mod Unique

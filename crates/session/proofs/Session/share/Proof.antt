@@ -1,0 +1,71 @@
+-- `Session::share` meets its contract. The loop has shared the documents of the places before i, and keeps the form.
+use borrow.Author.Needs.{needs}
+use mathlib.Core.Path.{_≡_}
+use mathlib.Core.Bool.{true}
+use Prim.Native.Nat.{_-_}
+use Rattle.lists.specs.Find.{fold}
+use Rattle.lists.proofs.Loops.{length-mapped}
+use Rattle.lists.proofs.Views.{Working, work-start, work-next, work-end, work-past}
+use Rattle.keys.specs.View.{viewPlace, viewKey}
+use Rattle.session.specs.View.{viewSlot}
+use Rattle.session.specs.Form.{sessionForm}
+use Rattle.session.proofs.SessionLaws.{sharing, share-key, share-step}
+use Rattle.session.proofs.Session.share.Statement.{statement}
+use Rattle.session.proofs.Session.share.Tie as tie
+
+abbrev Inv-loop : tie.InvT-loop
+Inv-loop now key count s₀ i₀ s i = Working viewPlace (sharing now) count 4 (key .places) (fold (sharing now) (viewSlot s₀) (viewKey key)) (viewSlot s) i × (sessionForm s₀ ≡ true → sessionForm s ≡ true)
+
+abbrev μ-loop : tie.MeasureT-loop
+μ-loop now key count s₀ i₀ s i = 4 - i
+
+cast-count : tie.Need-cast-count Inv-loop μ-loop
+cast-count c = search needs
+
+loop-holds : tie.Need-loop-holds Inv-loop μ-loop
+unfolding viewKey
+loop-holds c = (search (work-start, length-mapped, needs), λ f. f)
+
+returns : tie.Need-returns Inv-loop μ-loop
+returns c = (λ h. share-key _ _ _ _ (work-end (c .before .before .loop .inv .0) (search needs)) h, c .before .before .loop .inv .1)
+
+mul-q : tie.Need-mul-q Inv-loop μ-loop
+mul-q c = search needs
+
+element-copy-out-q : tie.Need-element-copy-out-q Inv-loop μ-loop
+element-copy-out-q c = search needs
+
+with-shared-requires : tie.Need-with-shared-requires Inv-loop μ-loop
+with-shared-requires c κs = search needs
+
+add-i : tie.Need-add-i Inv-loop μ-loop
+add-i c = search needs
+
+loop-less : tie.Need-loop-less Inv-loop μ-loop
+loop-less c = search needs
+
+loop-again : tie.Need-loop-again Inv-loop μ-loop
+loop-again c = (
+  work-next (c .before .before .before .before .loop .inv .0) _ (c .before .before .before .loop-test .taken) (c .before .before .if1 .left) (share-step _ _ _ _ (c .with-shared .ensures .0)),
+  λ f. c .with-shared .ensures .1 (c .before .before .before .before .loop .inv .1 f),
+)
+
+returns-2 : tie.Need-returns-2 Inv-loop μ-loop
+returns-2 c = (λ h. share-key _ _ _ _ (work-past (c .before .loop .inv .0) (search needs)) h, c .before .loop .inv .1)
+
+pub share-spec : {M : Type 1} → statement M
+share-spec =
+    tie.close
+    (tie.spec
+    Inv-loop
+    μ-loop
+    cast-count
+    loop-holds
+    returns
+    mul-q
+    element-copy-out-q
+    with-shared-requires
+    add-i
+    loop-less
+    loop-again
+    returns-2)

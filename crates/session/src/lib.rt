@@ -1,0 +1,298 @@
+// A session with a slot: its leases as two sets of documents, the tick of each grant, and its changes.
+ghost use mathlib.Core.Path.{_≡_};
+ghost use mathlib.Core.Bool.{true, not, _&&_};
+ghost use Prim.Native.Nat.{ℕ, _<_, _+_};
+ghost use lib.Dec.{eqb, leb};
+ghost use Rattle.rules.specs.Limits.{documentCount};
+ghost use Rattle.rules.specs.Lists.{any, all};
+ghost use Rattle.rules.specs.Values.{inRange};
+ghost use Rattle.rules.specs.Tables.{isHeld, isExclusive, hasLapsed, documents, doomedSession, remade};
+ghost use Rattle.rules.specs.Effects.{opened, withShared, withExclusive, withLast, grant, onlyAt, lapses, lapse, loses};
+ghost use Rattle.rules.specs.Step.{count, heldShared, heldExclusive};
+ghost use Rattle.docset.specs.Sets.{docs};
+ghost use Rattle.keys.specs.View.{viewKey};
+ghost use Rattle.changes.specs.View.{viewUpdate};
+ghost use Rattle.changes.specs.Form.{isUsed};
+ghost use Rattle.session.specs.View.{viewSession, viewSlot, withSharedOne};
+ghost use Rattle.session.specs.Form.{sessionForm, isBare, isUnused};
+use changes::Changes;
+use changes::Update;
+use keys::Key;
+
+// What began at tick t is k ticks old when the clock reaches t + k.
+fn ended(t: u64, k: u64, clock: u64) -> bool
+    ensures { λ r. ⌜ r ≡ leb (t + k) clock ⌝ }
+{
+    if clock < k {
+        return false;
+    }
+    t <= clock - k
+}
+
+pub struct Session {
+    pub number: u32,
+    pub begun: u64,
+    pub doomed: bool,
+    pub shared: u64,
+    pub exclusive: u64,
+    pub granted: [u64; 64],
+    pub changes: Changes,
+}
+
+impl Session {
+    pub const DOCUMENTS: usize = 64;
+
+    pub const LEASE_TICKS: u64 = 300;
+
+    pub const LIFE_TICKS: u64 = 1000;
+
+    // Doomed, without leases and changes: what is left of a session, or of none.
+    fn bare(number: u32) -> Self
+        ensures shows { λ r. ⌜ viewSlot r ≡ record { number = number; session = doomedSession } ⌝ }
+        ensures form { λ r. ⌜ isBare r ≡ true ⌝ }
+    {
+        let changes = Changes::empty();
+        Self {
+            number,
+            begun: 0,
+            doomed: true,
+            shared: 0,
+            exclusive: 0,
+            granted: [0; Self::DOCUMENTS],
+            changes,
+        }
+    }
+
+    // What a slot that is not in use holds, and what is found for a number without a slot.
+    pub fn empty() -> Self
+        ensures shows { λ r. ⌜ viewSession r ≡ doomedSession ⌝ }
+        ensures form { λ r. ⌜ isUnused r ≡ true ⌝ }
+    {
+        Self::bare(0)
+    }
+
+    pub fn opened(number: u32, clock: u64) -> Self
+        ensures shows { λ r. ⌜ viewSlot r ≡ opened number clock ⌝ }
+        ensures form { λ r. ⌜ sessionForm r ≡ true ⌝ }
+    {
+        let changes = Changes::empty();
+        Self {
+            number,
+            begun: clock,
+            doomed: false,
+            shared: 0,
+            exclusive: 0,
+            granted: [0; Self::DOCUMENTS],
+            changes,
+        }
+    }
+
+    // Its leases and changes are gone.
+    pub fn doom(self) -> Self
+        ensures shows { λ r. ⌜ viewSlot r ≡ remade (λ n s. doomedSession) (viewSlot self) ⌝ }
+        ensures form { λ r. ⌜ sessionForm r ≡ true ⌝ }
+    {
+        Self::bare(self.number)
+    }
+
+    pub fn is(self, n: u32) -> bool
+        ensures { λ r. ⌜ r ≡ eqb n (viewSlot self .number) ⌝ }
+    {
+        n == self.number
+    }
+
+    pub fn is_doomed(self) -> bool
+        ensures { λ r. ⌜ r ≡ viewSlot self .session .doomed ⌝ }
+    {
+        self.doomed
+    }
+
+    pub fn holds(self, d: u8) -> bool
+        ensures { λ r. ⌜ r ≡ isHeld (viewSession self .lease d) ⌝ }
+    {
+        if docset::has(self.exclusive, d) {
+            return true;
+        }
+        docset::has(self.shared, d)
+    }
+
+    pub fn holds_exclusive(self, d: u8) -> bool
+        ensures { λ r. ⌜ r ≡ isExclusive (viewSession self .lease d) ⌝ }
+    {
+        docset::has(self.exclusive, d)
+    }
+
+    // Another session than n that holds a document exclusively.
+    pub fn hinders(self, n: u32, d: u8) -> bool
+        ensures { λ r. ⌜ r ≡ not (eqb n (viewSlot self .number)) && isExclusive (viewSlot self .session .lease d) ⌝ }
+    {
+        if self.is(n) {
+            return false;
+        }
+        self.holds_exclusive(d)
+    }
+
+    // The documents that it holds.
+    pub fn held(self) -> u64
+        ensures { λ r. ⌜ docs r ≡ (λ d. isHeld (viewSession self .lease d)) ⌝ }
+    {
+        docset::union(self.shared, self.exclusive)
+    }
+
+    pub fn exclusive_count(self) -> u8
+        ensures { λ r. ⌜ r ≡ count (heldExclusive (viewSession self)) documents ⌝ }
+    {
+        docset::count(self.exclusive)
+    }
+
+    // All that it holds but for what it holds exclusively.
+    pub fn shared_count(self) -> u8
+        ensures { λ r. ⌜ r ≡ count (heldShared (viewSession self)) documents ⌝ }
+    {
+        let held = self.held();
+        let all = docset::count(held);
+        let exclusive = self.exclusive_count();
+        all - exclusive
+    }
+
+    // A shared lease on a document, unless it is held.
+    pub fn with_shared(self, d: u8, now: u64) -> Self
+        ensures shows { λ r. ⌜ viewSlot r ≡ remade (λ n. withSharedOne now d) (viewSlot self) ⌝ }
+        ensures form { λ r. ⌜ (sessionForm self ≡ true → sessionForm r ≡ true) ⌝ }
+    {
+        let at = d as usize;
+        if Self::DOCUMENTS <= at {
+            return self;
+        }
+        if self.holds(d) {
+            return self;
+        }
+        let mut s = self;
+        s.shared = docset::with(self.shared, d);
+        s.granted[at] = now;
+        s
+    }
+
+    // Shared leases on the documents of a key.
+    pub fn share(self, key: Key, now: u64) -> Self
+        ensures shows { λ r. ⌜ (all inRange (viewKey key) ≡ true → viewSlot r ≡ remade (λ n. withShared now (viewKey key)) (viewSlot self)) ⌝ }
+        ensures form { λ r. ⌜ (sessionForm self ≡ true → sessionForm r ≡ true) ⌝ }
+    {
+        let count = key.count as usize;
+        let mut s = self;
+        let mut i: usize = 0;
+        while i < Key::LIMIT {
+            if count <= i {
+                return s;
+            }
+            let q = key.places[i];
+            s = s.with_shared(q.document, now);
+            i += 1;
+        }
+        s
+    }
+
+    // The same for session n; any other stays as it is.
+    pub fn share_own(self, n: u32, key: Key, now: u64) -> Self
+        ensures shows { λ r. ⌜ (all inRange (viewKey key) ≡ true → viewSlot r ≡ remade (onlyAt n (withShared now (viewKey key))) (viewSlot self)) ⌝ }
+        ensures form { λ r. ⌜ (sessionForm self ≡ true → sessionForm r ≡ true) ⌝ }
+    {
+        if self.number == n {
+            return self.share(key, now);
+        }
+        self
+    }
+
+    // An exclusive lease on a document; one that is held exclusively keeps its grant.
+    pub fn with_exclusive(self, d: u8, now: u64) -> Self
+        ensures shows { λ r. ⌜ (d < documentCount → viewSlot r ≡ remade (λ n. withExclusive now d) (viewSlot self)) ⌝ }
+        ensures form { λ r. ⌜ (sessionForm self ≡ true → sessionForm r ≡ true) ⌝ }
+    {
+        let at = d as usize;
+        if Self::DOCUMENTS <= at {
+            return self;
+        }
+        if docset::has(self.exclusive, d) {
+            return self;
+        }
+        let mut s = self;
+        s.shared = docset::without(self.shared, d);
+        s.exclusive = docset::with(self.exclusive, d);
+        s.granted[at] = now;
+        s
+    }
+
+    // The change last, if there is room.
+    pub fn with_last(self, c: Update) -> Self
+        ensures shows { λ r. ⌜ viewSlot r ≡ remade (λ n. withLast (viewUpdate c)) (viewSlot self) ⌝ }
+        ensures form { λ r. ⌜ (isUsed c ≡ true → sessionForm self ≡ true → sessionForm r ≡ true) ⌝ }
+    {
+        let own = self.changes;
+        let changes = own.push(c);
+        let mut s = self;
+        s.changes = changes;
+        s
+    }
+
+    // What a change of session n does to a session: n gets the lease and the change, another holder is doomed.
+    pub fn grant(self, n: u32, c: Update, now: u64) -> Self
+        ensures shows { λ r. ⌜ (c .place .document < documentCount → viewSlot r ≡ remade (grant now n (viewUpdate c)) (viewSlot self)) ⌝ }
+        ensures form { λ r. ⌜ (isUsed c ≡ true → sessionForm self ≡ true → sessionForm r ≡ true) ⌝ }
+    {
+        let place = c.place;
+        let d = place.document;
+        if self.number == n {
+            let s = self.with_exclusive(d, now);
+            return s.with_last(c);
+        }
+        if self.holds(d) {
+            return self.doom();
+        }
+        self
+    }
+
+    // A lease of it has lapsed.
+    fn any_lapsed(self, clock: u64) -> bool
+        ensures { λ r. ⌜ r ≡ any (λ d. hasLapsed clock (viewSession self .lease d)) documents ⌝ }
+    {
+        if clock < Self::LEASE_TICKS {
+            return false;
+        }
+        let held = self.held();
+        let granted = self.granted;
+        docset::any_over(held, granted, clock - Self::LEASE_TICKS)
+    }
+
+    // A lease of it lapses, or its own life.
+    pub fn lapses(self, clock: u64) -> bool
+        ensures { λ r. ⌜ r ≡ lapses clock (viewSession self) ⌝ }
+    {
+        if self.doomed {
+            return false;
+        }
+        if ended(self.begun, Self::LIFE_TICKS, clock) {
+            return true;
+        }
+        self.any_lapsed(clock)
+    }
+
+    pub fn lapsed(self, clock: u64) -> Self
+        ensures shows { λ r. ⌜ viewSlot r ≡ remade (lapse clock) (viewSlot self) ⌝ }
+        ensures form { λ r. ⌜ (sessionForm self ≡ true → sessionForm r ≡ true) ⌝ }
+    {
+        if self.lapses(clock) {
+            return self.doom();
+        }
+        self
+    }
+
+    // The documents that it holds, if it lapses.
+    pub fn lost(self, clock: u64) -> u64
+        ensures { λ r. ⌜ docs r ≡ loses clock (viewSlot self) ⌝ }
+    {
+        if self.lapses(clock) {
+            return self.held();
+        }
+        0
+    }
+}

@@ -1,0 +1,3 @@
+-- Laws of the table of sessions.
+pub mod SessionsLaws
+pub mod Unique

@@ -1,0 +1,71 @@
+-- `Sessions::lost` meets its contract. The loop has gathered what the slots before i lose.
+use borrow.Author.Needs.{needs}
+use Prim.Native.Nat.{_-_}
+use Rattle.lists.proofs.Loops.{length-mapped}
+use Rattle.rules.specs.Effects.{isLost}
+use Rattle.docset.specs.Sets.{docs}
+use Rattle.lists.proofs.Views.{Working, work-start, work-next, work-end, work-past}
+use Rattle.sessions.specs.View.{viewSessions}
+use Rattle.session.specs.View.{viewSlot}
+use Rattle.sessions.proofs.SessionsLaws.{gathered, gather-is, gather-one}
+use Rattle.sessions.proofs.Sessions.lost.Statement.{statement}
+use Rattle.sessions.proofs.Sessions.lost.Tie as tie
+
+abbrev Inv-loop : tie.InvT-loop
+Inv-loop clock self count set₀ i₀ set i = Working viewSlot (gathered clock) count 8 (self .slots) (isLost clock (viewSessions self)) (docs set) i
+
+abbrev μ-loop : tie.MeasureT-loop
+μ-loop clock self count set₀ i₀ set i = 8 - i
+
+cast-count : tie.Need-cast-count Inv-loop μ-loop
+cast-count c = search needs
+
+loop-holds : tie.Need-loop-holds Inv-loop μ-loop
+loop-holds c = work-start (search (length-mapped, needs)) (gather-is _ _)
+
+returns : tie.Need-returns Inv-loop μ-loop
+returns c = search (work-end, needs)
+
+mul-s : tie.Need-mul-s Inv-loop μ-loop
+mul-s c = search needs
+
+element-copy-out-s : tie.Need-element-copy-out-s Inv-loop μ-loop
+element-copy-out-s c = search needs
+
+lost-requires : tie.Need-lost-requires Inv-loop μ-loop
+lost-requires c κs = search needs
+
+union-requires : tie.Need-union-requires Inv-loop μ-loop
+union-requires c κs = search needs
+
+add-i : tie.Need-add-i Inv-loop μ-loop
+add-i c = search needs
+
+loop-less : tie.Need-loop-less Inv-loop μ-loop
+loop-less c = search needs
+
+loop-again : tie.Need-loop-again Inv-loop μ-loop
+loop-again c =
+    work-next (c .before .before .before .before .before .loop .inv) _ (c .before .before .before .before .loop-test .taken) (c .before .before .before .if1 .left)
+    (gather-one _ _ _ _ _ (c .before .lost .ensures) (c .union .ensures))
+
+returns-2 : tie.Need-returns-2 Inv-loop μ-loop
+returns-2 c = search (work-past, needs)
+
+pub lost-spec : {M : Type 1} → statement M
+lost-spec =
+    tie.close
+    (tie.spec
+    Inv-loop
+    μ-loop
+    cast-count
+    loop-holds
+    returns
+    mul-s
+    element-copy-out-s
+    lost-requires
+    union-requires
+    add-i
+    loop-less
+    loop-again
+    returns-2)

@@ -1,0 +1,123 @@
+-- The table of sessions through its view: one law for each way out of a method.
+use Prim.Native.Nat.{ℕ, _+_, _≤_, _<_}
+use native.Mathlib.Omega.{arith}
+use mathlib.Core.Path.{_≡_, refl, sym, _∙_, ap, fun-ext}
+use mathlib.Core.Bool.{Bool, true, false, not, cond, _||_}
+use mathlib.Core.List.{List, [], _∷_, map}
+use lib.Dec.{eqb}
+use lib.ListN.{length, getD, set}
+use borrow.Author.Tests.{le-leb, lt-leb}
+use Rattle.rules.specs.Lists.{any, pushed}
+use Rattle.rules.specs.Tables as M
+use Rattle.rules.specs.Effects.{opened, firstDoomed, room, loses, isLost}
+use Rattle.rules.proofs.Laws.{or-zero}
+use Rattle.lists.specs.Find.{fold}
+use Rattle.lists.specs.Table.{counted}
+use Rattle.lists.proofs.Views.{Remaking, remake-past, push-room, push-full, counted-few, counted-full}
+use Rattle.lists.proofs.Forms.{form-empty, form-push, used-at}
+use Rattle.lists.proofs.Remake.{remake-end, form-set}
+use Rattle.docset.specs.Sets.{docs}
+use Rattle.docset.proofs.SetLaws.{docs-none}
+use Rattle.session.specs.declared.Session.{Session}
+use Rattle.session.specs.View.{viewSlot}
+use Rattle.session.specs.Form.{sessionForm, isUnused}
+use Rattle.session.proofs.FormLaws.{unused-parts}
+use Rattle.sessions.specs.declared.Sessions.{Sessions}
+use Rattle.sessions.specs.View.{viewSessions}
+use Rattle.sessions.specs.Form.{sessionsForm}
+
+pub none-shown : (l : List Session) → viewSessions (record { count = 0; slots = l }) ≡ []
+unfolding viewSessions counted
+none-shown l = refl
+
+pub none-form : (s : Session) → isUnused s ≡ true → sessionsForm (record { count = 0; slots = s ∷ s ∷ s ∷ s ∷ s ∷ s ∷ s ∷ s ∷ [] }) ≡ true
+unfolding sessionsForm
+none-form s e = form-empty 8 sessionForm isUnused s e
+
+pub unused-form : (s : Session) → isUnused s ≡ true → sessionForm s ≡ true
+unused-form s e = unused-parts s e .1 .form
+
+-- an entry in use is in form
+pub slot-form : (t : Sessions) (i : ℕ) (d : Session) → i < t .count → sessionsForm t ≡ true → sessionForm (getD (t .slots) i d) ≡ true
+unfolding sessionsForm
+slot-form t i d h f = used-at 8 sessionForm isUnused (t .count) (t .slots) i d h f
+
+pub len-full : (t : Sessions) → length (t .slots) ≡ 8 → 8 ≤ t .count → 8 ≡ length (viewSessions t)
+unfolding viewSessions
+len-full t l h = counted-full viewSlot (t .count) (t .slots) 8 l h
+
+pub len-few : (t : Sessions) → length (t .slots) ≡ 8 → t .count < 8 → t .count ≡ length (viewSessions t)
+unfolding viewSessions
+len-few t l h = counted-few viewSlot (t .count) (t .slots) 8 l h
+
+-- ── one more ──
+module _ (t : Sessions) (s : Session) (l : length (t .slots) ≡ 8) where
+  pub slot-room : t .count < 8 → viewSessions (record { count = t .count + 1; slots = set (t .slots) (t .count) s }) ≡ pushed 8 (viewSessions t) (viewSlot s)
+  unfolding viewSessions
+  slot-room h = push-room viewSlot (t .count) (t .slots) 8 s l h refl
+
+  pub slot-full : 8 ≤ t .count → viewSessions t ≡ pushed 8 (viewSessions t) (viewSlot s)
+  unfolding viewSessions
+  slot-full h = push-full viewSlot (t .count) (t .slots) 8 (viewSlot s) l h
+
+pub push-form : (t : Sessions) (s : Session) → t .count < 8 → sessionForm s ≡ true → sessionsForm t ≡ true → sessionsForm (record { count = t .count + 1; slots = set (t .slots) (t .count) s }) ≡ true
+unfolding sessionsForm
+push-form t s h e f = form-push 8 sessionForm isUnused (t .count) (t .slots) s h e f
+
+module _ (t : Sessions) (s : Session) (n : ℕ) {b : Bool} (e : b ≡ eqb n (viewSlot s .number)) where
+  pub unless-own : b ≡ true → viewSessions t ≡ cond (not (eqb n (viewSlot s .number))) (pushed 8 (viewSessions t) (viewSlot s)) (viewSessions t)
+  unless-own h = rw (← e, h)
+
+  pub unless-other : (r : Sessions) → b ≡ false → viewSessions r ≡ pushed 8 (viewSessions t) (viewSlot s) → viewSessions r ≡ cond (not (eqb n (viewSlot s .number))) (pushed 8 (viewSessions t) (viewSlot s)) (viewSessions t)
+  unless-other r h q = q ∙ rw (← e, h)
+
+-- ── room ──
+module _ (t : Sessions) (l : length (t .slots) ≡ 8) where
+  pub room-there : t .count < 8 → viewSessions t ≡ room (viewSessions t)
+  unfolding viewSessions
+  room-there h = rw (lt-leb 8 (length (counted viewSlot (t .count) (t .slots))) (omega (arith, counted-few viewSlot (t .count) (t .slots) 8 l h)))
+
+  pub room-made : (n : ℕ) (r : Sessions) → 8 ≤ t .count → n ≡ firstDoomed (viewSessions t) → viewSessions r ≡ M.freed n (viewSessions t) → viewSessions r ≡ room (viewSessions t)
+  unfolding viewSessions
+  room-made n r h p q =
+      q ∙ ap (λ (m : ℕ). M.freed m (viewSessions t)) p
+      ∙ sym (rw (le-leb 8 (length (counted viewSlot (t .count) (t .slots))) (omega (arith, counted-full viewSlot (t .count) (t .slots) 8 l h))))
+
+pub begun-is : (t u r : Sessions) (s : Session) (n clock : ℕ) → viewSessions u ≡ room (viewSessions t) → viewSlot s ≡ opened n clock → viewSessions r ≡ pushed 8 (viewSessions u) (viewSlot s) → viewSessions r ≡ pushed 8 (room (viewSessions t)) (opened n clock)
+begun-is t u r s n clock p q e = e ∙ ap (λ (l : List M.Slot). pushed 8 l (viewSlot s)) p ∙ ap (pushed 8 (room (viewSessions t))) q
+
+-- ── every slot in use made anew ──
+module _ (t : Sessions) (g : M.Slot → M.Slot) (vs : List Session) (i : ℕ) (inv : Remaking viewSlot g (t .slots) 8 vs i) where
+  pub remade-end : t .count ≤ i → viewSessions (record { count = t .count; slots = vs }) ≡ map g (viewSessions t)
+  unfolding viewSessions
+  remade-end h = remake-end inv (t .count) h
+
+  pub remade-past : 8 ≤ i → viewSessions (record { count = t .count; slots = vs }) ≡ map g (viewSessions t)
+  unfolding viewSessions
+  remade-past h = remake-past inv (t .count) h
+
+pub set-form : (n : ℕ) (vs : List Session) (i : ℕ) (s : Session) → i < n → sessionForm s ≡ true → sessionsForm (record { count = n; slots = vs }) ≡ true → sessionsForm (record { count = n; slots = set vs i s }) ≡ true
+unfolding sessionsForm
+set-form n vs i s h e f = form-set 8 sessionForm isUnused n vs i s h e f
+
+-- ── the sets of several gathered in one ──
+or-cond : (a x y : Bool) → (a || x) || y ≡ a || cond x true y
+or-cond true x y = refl
+or-cond false true y = refl
+or-cond false false y = refl
+
+fold-any : {B : Type 0} (q : B → ℕ → Bool) (l : List B) (a : ℕ → Bool) → fold (λ a s. (λ d. a d || q s d)) a l ≡ (λ d. a d || any (λ s. q s d) l)
+unfolding fold
+fold-any q [] a = fun-ext (λ d. sym (or-zero (a d)))
+fold-any q (x ∷ l) a = fold-any q l (λ d. a d || q x d) ∙ fun-ext (λ d. or-cond (a d) (q x d) (any (λ s. q s d) l))
+
+unfoldable pub gathered : ℕ → (ℕ → Bool) → M.Slot → ℕ → Bool
+gathered clock a s = λ d. a d || loses clock s d
+
+pub gather-is : (clock : ℕ) (t : Sessions) → isLost clock (viewSessions t) ≡ fold (gathered clock) (docs 0) (counted viewSlot (t .count) (t .slots))
+unfolding gathered isLost viewSessions
+gather-is clock t = sym (rw docs-none (fold-any (loses clock) (counted viewSlot (t .count) (t .slots)) (λ d. false)))
+
+pub gather-one : (clock a b r : ℕ) (s : Session) → docs b ≡ loses clock (viewSlot s) → docs r ≡ (λ d. docs a d || docs b d) → docs r ≡ gathered clock (docs a) (viewSlot s)
+unfolding gathered
+gather-one clock a b r s e f = f ∙ ap (λ (x : ℕ → Bool). (λ d. docs a d || x d)) e

@@ -1,0 +1,3 @@
+-- The table of sessions as the rules see it.
+pub mod View
+pub mod Form

@@ -1,0 +1,9 @@
+-- The table of sessions as the rules see it, for every value of the struct.
+use mathlib.Core.List.{List}
+use Rattle.rules.specs.Tables as M
+use Rattle.lists.specs.Table.{counted}
+use Rattle.session.specs.View.{viewSlot}
+use Rattle.sessions.specs.declared.Sessions.{Sessions}
+
+unfoldable pub viewSessions : Sessions → List M.Slot
+viewSessions t = counted viewSlot (t .count) (t .slots)

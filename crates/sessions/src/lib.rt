@@ -1,0 +1,311 @@
+// The table of the sessions with a slot, in the order of their numbers.
+ghost use mathlib.Core.Path.{_≡_};
+ghost use mathlib.Core.Bool.{true, not, cond};
+ghost use mathlib.Core.List.{[]};
+ghost use Prim.Native.Nat.{ℕ, _<_};
+ghost use lib.Dec.{eqb};
+ghost use lib.ListN.{length};
+ghost use Rattle.rules.specs.Limits.{documentCount, slotLimit};
+ghost use Rattle.rules.specs.Lists.{any, all, pushed};
+ghost use Rattle.rules.specs.Values.{inRange};
+ghost use Rattle.rules.specs.Tables.{hasSlot, session, each, freed, othersExclusive};
+ghost use Rattle.rules.specs.Effects.{opened, firstDoomed, room, withShared, grant, onlyAt, lapse, isLost};
+ghost use Rattle.docset.specs.Sets.{docs};
+ghost use Rattle.keys.specs.View.{viewKey};
+ghost use Rattle.changes.specs.View.{viewUpdate};
+ghost use Rattle.changes.specs.Form.{isUsed};
+ghost use Rattle.session.specs.View.{viewSession, viewSlot};
+ghost use Rattle.session.specs.Form.{sessionForm};
+ghost use Rattle.sessions.specs.View.{viewSessions};
+ghost use Rattle.sessions.specs.Form.{sessionsForm};
+use changes::Update;
+use keys::Key;
+use session::Session;
+
+pub struct Sessions {
+    pub count: u8,
+    pub slots: [Session; 8],
+}
+
+impl Sessions {
+    pub const LIMIT: usize = 8;
+
+    pub fn empty() -> Self
+        ensures shows { λ r. ⌜ viewSessions r ≡ [] ⌝ }
+        ensures form { λ r. ⌜ sessionsForm r ≡ true ⌝ }
+    {
+        let s = Session::empty();
+        Self {
+            count: 0,
+            slots: [s; Self::LIMIT],
+        }
+    }
+
+    pub fn len(self) -> u8
+        ensures { λ r. ⌜ r ≡ length (viewSessions self) ⌝ }
+    {
+        let n = self.count;
+        if Self::LIMIT <= n as usize {
+            return Self::LIMIT as u8;
+        }
+        n
+    }
+
+    // The number has a slot.
+    pub fn has(self, n: u32) -> bool
+        ensures { λ r. ⌜ r ≡ hasSlot n (viewSessions self) ⌝ }
+    {
+        let count = self.count as usize;
+        let mut i: usize = 0;
+        while i < Self::LIMIT {
+            if count <= i {
+                return false;
+            }
+            let s = self.slots[i];
+            if s.is(n) {
+                return true;
+            }
+            i += 1;
+        }
+        false
+    }
+
+    // The session of a number; a number without a slot has the empty one.
+    pub fn session(self, n: u32) -> Session
+        ensures shows { λ r. ⌜ viewSession r ≡ session n (viewSessions self) ⌝ }
+        ensures form { λ r. ⌜ (sessionsForm self ≡ true → sessionForm r ≡ true) ⌝ }
+    {
+        let count = self.count as usize;
+        let mut i: usize = 0;
+        while i < Self::LIMIT {
+            if count <= i {
+                return Session::empty();
+            }
+            let found = self.slots[i];
+            if found.is(n) {
+                return found;
+            }
+            i += 1;
+        }
+        Session::empty()
+    }
+
+    // Another session than n holds the document exclusively.
+    pub fn others_exclusive(self, n: u32, d: u8) -> bool
+        ensures { λ r. ⌜ r ≡ othersExclusive n d (viewSessions self) ⌝ }
+    {
+        let count = self.count as usize;
+        let mut i: usize = 0;
+        while i < Self::LIMIT {
+            if count <= i {
+                return false;
+            }
+            let s = self.slots[i];
+            if s.hinders(n, d) {
+                return true;
+            }
+            i += 1;
+        }
+        false
+    }
+
+    pub fn any_doomed(self) -> bool
+        ensures { λ r. ⌜ r ≡ any (λ s. s .session .doomed) (viewSessions self) ⌝ }
+    {
+        let count = self.count as usize;
+        let mut i: usize = 0;
+        while i < Self::LIMIT {
+            if count <= i {
+                return false;
+            }
+            let s = self.slots[i];
+            if s.is_doomed() {
+                return true;
+            }
+            i += 1;
+        }
+        false
+    }
+
+    // The number of the first doomed session, 0 if there is none.
+    pub fn first_doomed(self) -> u32
+        ensures { λ r. ⌜ r ≡ firstDoomed (viewSessions self) ⌝ }
+    {
+        let count = self.count as usize;
+        let mut i: usize = 0;
+        while i < Self::LIMIT {
+            if count <= i {
+                return 0;
+            }
+            let s = self.slots[i];
+            if s.is_doomed() {
+                return s.number;
+            }
+            i += 1;
+        }
+        0
+    }
+
+    // One more, if there is room.
+    pub fn push(self, s: Session) -> Self
+        ensures shows { λ r. ⌜ viewSessions r ≡ pushed slotLimit (viewSessions self) (viewSlot s) ⌝ }
+        ensures form { λ r. ⌜ (sessionForm s ≡ true → sessionsForm self ≡ true → sessionsForm r ≡ true) ⌝ }
+    {
+        let at = self.count as usize;
+        if Self::LIMIT <= at {
+            return self;
+        }
+        let mut t = self;
+        t.slots[at] = s;
+        t.count = self.count + 1;
+        t
+    }
+
+    fn push_unless(self, s: Session, n: u32) -> Self
+        ensures shows { λ r. ⌜ viewSessions r ≡ cond (not (eqb n (viewSlot s .number))) (pushed slotLimit (viewSessions self) (viewSlot s)) (viewSessions self) ⌝ }
+        ensures form { λ r. ⌜ (sessionForm s ≡ true → sessionsForm self ≡ true → sessionsForm r ≡ true) ⌝ }
+    {
+        if s.is(n) {
+            return self;
+        }
+        self.push(s)
+    }
+
+    // The slot of n is free.
+    pub fn freed(self, n: u32) -> Self
+        ensures shows { λ r. ⌜ viewSessions r ≡ freed n (viewSessions self) ⌝ }
+        ensures form { λ r. ⌜ (sessionsForm self ≡ true → sessionsForm r ≡ true) ⌝ }
+    {
+        let count = self.count as usize;
+        let mut kept = Sessions::empty();
+        let mut i: usize = 0;
+        while i < Self::LIMIT {
+            if count <= i {
+                return kept;
+            }
+            let s = self.slots[i];
+            kept = kept.push_unless(s, n);
+            i += 1;
+        }
+        kept
+    }
+
+    // If every slot is in use, the first doomed session gives way.
+    pub fn room(self) -> Self
+        ensures shows { λ r. ⌜ viewSessions r ≡ room (viewSessions self) ⌝ }
+        ensures form { λ r. ⌜ (sessionsForm self ≡ true → sessionsForm r ≡ true) ⌝ }
+    {
+        let count = self.count as usize;
+        if count < Self::LIMIT {
+            return self;
+        }
+        let n = self.first_doomed();
+        self.freed(n)
+    }
+
+    // A new session of a number, in a slot that is free or whose session is doomed.
+    pub fn begun(self, number: u32, clock: u64) -> Self
+        ensures shows { λ r. ⌜ viewSessions r ≡ pushed slotLimit (room (viewSessions self)) (opened number clock) ⌝ }
+        ensures form { λ r. ⌜ (sessionsForm self ≡ true → sessionsForm r ≡ true) ⌝ }
+    {
+        let t = self.room();
+        let s = Session::opened(number, clock);
+        t.push(s)
+    }
+
+    // After a change of session n: it has the lease and the change, and the other holders are doomed.
+    pub fn changed(self, n: u32, c: Update, now: u64) -> Self
+        ensures shows { λ r. ⌜ (c .place .document < documentCount → viewSessions r ≡ each (grant now n (viewUpdate c)) (viewSessions self)) ⌝ }
+        ensures form { λ r. ⌜ (isUsed c ≡ true → sessionsForm self ≡ true → sessionsForm r ≡ true) ⌝ }
+    {
+        let old = self.slots;
+        let count = self.count as usize;
+        let mut slots = old;
+        let mut i: usize = 0;
+        while i < Self::LIMIT {
+            if count <= i {
+                return Self {
+                    count: self.count,
+                    slots,
+                };
+            }
+            let s = old[i];
+            slots[i] = s.grant(n, c, now);
+            i += 1;
+        }
+        Self {
+            count: self.count,
+            slots,
+        }
+    }
+
+    // After a read of session n: it has shared leases on the documents of the key.
+    pub fn shared(self, n: u32, key: Key, now: u64) -> Self
+        ensures shows { λ r. ⌜ (all inRange (viewKey key) ≡ true → viewSessions r ≡ each (onlyAt n (withShared now (viewKey key))) (viewSessions self)) ⌝ }
+        ensures form { λ r. ⌜ (sessionsForm self ≡ true → sessionsForm r ≡ true) ⌝ }
+    {
+        let old = self.slots;
+        let count = self.count as usize;
+        let mut slots = old;
+        let mut i: usize = 0;
+        while i < Self::LIMIT {
+            if count <= i {
+                return Self {
+                    count: self.count,
+                    slots,
+                };
+            }
+            let s = old[i];
+            slots[i] = s.share_own(n, key, now);
+            i += 1;
+        }
+        Self {
+            count: self.count,
+            slots,
+        }
+    }
+
+    // When the clock is at a tick: the sessions that lapse are doomed.
+    pub fn lapsed(self, clock: u64) -> Self
+        ensures shows { λ r. ⌜ viewSessions r ≡ each (lapse clock) (viewSessions self) ⌝ }
+        ensures form { λ r. ⌜ (sessionsForm self ≡ true → sessionsForm r ≡ true) ⌝ }
+    {
+        let old = self.slots;
+        let count = self.count as usize;
+        let mut slots = old;
+        let mut i: usize = 0;
+        while i < Self::LIMIT {
+            if count <= i {
+                return Self {
+                    count: self.count,
+                    slots,
+                };
+            }
+            let s = old[i];
+            slots[i] = s.lapsed(clock);
+            i += 1;
+        }
+        Self {
+            count: self.count,
+            slots,
+        }
+    }
+
+    // The documents that the sessions that lapse hold.
+    pub fn lost(self, clock: u64) -> u64
+        ensures { λ r. ⌜ docs r ≡ isLost clock (viewSessions self) ⌝ }
+    {
+        let count = self.count as usize;
+        let mut set: u64 = 0;
+        let mut i: usize = 0;
+        while i < Self::LIMIT {
+            if count <= i {
+                return set;
+            }
+            let s = self.slots[i];
+            set = docset::union(set, s.lost(clock));
+            i += 1;
+        }
+        set
+    }
+}
