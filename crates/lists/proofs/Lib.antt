@@ -1,3 +1,4 @@
+-- General laws: loops, tables through a view, tables by index, forms.
 pub mod Loops
 pub mod Views
 pub mod Indexed

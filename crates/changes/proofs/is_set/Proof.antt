@@ -1,14 +1,13 @@
+-- `is_set` meets its contract.
 use Rattle.changes.proofs.ChangeLaws.{set-is, unset-is}
 use Rattle.changes.proofs.is_set.Statement.{statement}
 use Rattle.changes.proofs.is_set.Tie as tie
 use Rattle.changes.proofs.is_set.Reads as reads
 use Rattle.changes.proofs.is_set.Lts as lts
 
--- src/lib.rt:27:9
 returns : tie.Need-returns
 returns c = set-is _ (c .if1 .taken)
 
--- src/lib.rt:23:1
 returns-2 : tie.Need-returns-2
 returns-2 c = unset-is _ (c .if1 .left)
 

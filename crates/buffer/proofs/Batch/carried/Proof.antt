@@ -1,3 +1,4 @@
+-- `Batch::carried` meets its contract.
 use Rattle.buffer.proofs.BufferLaws.{carried-row, carried-now}
 use borrow.Author.Needs.{needs}
 use Rattle.buffer.proofs.Batch.carried.Statement.{statement}
@@ -7,19 +8,15 @@ use Rattle.buffer.proofs.Batch.carried.Lts as lts
 use Rattle.buffer.proofs.Batch.run.Reads as run-reads
 use Rattle.rows.proofs.Rows.has.Reads as has-reads
 
--- src/lib.rt:67:12
 has-requires : tie.Need-has-requires
 has-requires c κs = search needs
 
--- src/lib.rt:68:13
 returns : tie.Need-returns
 returns c = (search carried-row, λ f. f)
 
--- src/lib.rt:70:9
 run-requires : tie.Need-run-requires
 run-requires c κs = search needs
 
--- src/lib.rt:63:5
 returns-2 : tie.Need-returns-2
 returns-2 c = (search carried-now, c .run .ensures .1)
 

@@ -1,3 +1,4 @@
+-- `Batch::empty` meets its contract.
 use Rattle.buffer.proofs.BufferLaws.{unused-is}
 use borrow.Author.Needs.{needs}
 use Rattle.buffer.proofs.Batch.empty.Statement.{statement}
@@ -6,11 +7,9 @@ use Rattle.buffer.proofs.Batch.empty.Reads as reads
 use Rattle.buffer.proofs.Batch.empty.Lts as lts
 use Rattle.changes.proofs.Changes.empty.Reads as empty-reads
 
--- src/lib.rt:33:13
 empty-requires : tie.Need-empty-requires
 empty-requires c κs = search needs
 
--- src/lib.rt:30:5
 returns : tie.Need-returns
 returns c = unused-is _ (c .empty .ensures .0) (c .empty .ensures .1)
 

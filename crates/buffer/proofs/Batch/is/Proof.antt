@@ -1,3 +1,4 @@
+-- `Batch::is` meets its contract.
 use borrow.Author.Needs.{needs}
 use Rattle.buffer.specs.View.{viewBatch, viewBuffer}
 use Rattle.buffer.proofs.Batch.is.Statement.{statement}
@@ -5,7 +6,6 @@ use Rattle.buffer.proofs.Batch.is.Tie as tie
 use Rattle.buffer.proofs.Batch.is.Reads as reads
 use Rattle.buffer.proofs.Batch.is.Lts as lts
 
--- src/lib.rt:40:5
 returns : tie.Need-returns
 unfolding viewBatch
 returns c = search needs

@@ -1,3 +1,4 @@
+-- `Batch::run` meets its contract.
 use Rattle.buffer.specs.View.{viewBatch, viewBuffer}
 use borrow.Author.Needs.{needs}
 use Rattle.buffer.proofs.Batch.run.Statement.{statement}
@@ -6,11 +7,9 @@ use Rattle.buffer.proofs.Batch.run.Reads as reads
 use Rattle.buffer.proofs.Batch.run.Lts as lts
 use Rattle.changes.proofs.Changes.run.Reads as run-reads
 
--- src/lib.rt:59:9
 run-requires : tie.Need-run-requires
 run-requires c κs = search needs
 
--- src/lib.rt:54:5
 returns : tie.Need-returns
 unfolding viewBatch
 returns c = (c .run .ensures .0, c .run .ensures .1)

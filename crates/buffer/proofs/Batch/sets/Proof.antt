@@ -1,3 +1,4 @@
+-- `Batch::sets` meets its contract.
 use Rattle.buffer.specs.View.{viewBatch, viewBuffer}
 use borrow.Author.Needs.{needs}
 use Rattle.buffer.proofs.Batch.sets.Statement.{statement}
@@ -6,11 +7,9 @@ use Rattle.buffer.proofs.Batch.sets.Reads as reads
 use Rattle.buffer.proofs.Batch.sets.Lts as lts
 use Rattle.changes.proofs.Changes.sets.Reads as sets-reads
 
--- src/lib.rt:50:9
 sets-requires : tie.Need-sets-requires
 sets-requires c κs = search needs
 
--- src/lib.rt:46:5
 returns : tie.Need-returns
 unfolding viewBatch
 returns c = search needs

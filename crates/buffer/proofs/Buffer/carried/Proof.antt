@@ -1,3 +1,4 @@
+-- `Buffer::carried` meets its contract.
 use borrow.Author.Needs.{needs}
 use Prim.Native.Nat.{_-_}
 use mathlib.Core.Path.{_≡_}
@@ -25,44 +26,34 @@ Inv-loop rows q self count now₀ i₀ now i =
 abbrev μ-loop : tie.MeasureT-loop
 μ-loop rows q self count now₀ i₀ now i = 32 - i
 
--- src/lib.rt:245:21
 cast-count : tie.Need-cast-count Inv-loop μ-loop
 cast-count c = search needs
 
--- src/lib.rt:248:9
 loop-holds : tie.Need-loop-holds Inv-loop μ-loop
 unfolding viewBuffer
 loop-holds c = (work-start (search length-mapped) (run-pending _ _ _ _), λ f. f)
 
--- src/lib.rt:250:17
 returns : tie.Need-returns Inv-loop μ-loop
 returns c = (search (work-end, needs), c .before .before .loop .inv .1)
 
--- src/lib.rt:252:21
 mul-b : tie.Need-mul-b Inv-loop μ-loop
 mul-b c = search needs
 
--- src/lib.rt:252:21
 element-copy-out-b : tie.Need-element-copy-out-b Inv-loop μ-loop
 element-copy-out-b c = search needs
 
--- src/lib.rt:253:13
 carried-requires : tie.Need-carried-requires Inv-loop μ-loop
 carried-requires c κs = search needs
 
--- src/lib.rt:254:13
 add-i : tie.Need-add-i Inv-loop μ-loop
 add-i c = search needs
 
--- src/lib.rt:248:9
 loop-less : tie.Need-loop-less Inv-loop μ-loop
 loop-less c = search needs
 
--- src/lib.rt:248:9
 loop-again : tie.Need-loop-again Inv-loop μ-loop
 loop-again c = (search (work-next, needs), λ f. c .carried .ensures .1 (c .before .before .before .before .loop .inv .1 f))
 
--- src/lib.rt:241:5
 returns-2 : tie.Need-returns-2 Inv-loop μ-loop
 returns-2 c = (search (work-past, needs), c .before .loop .inv .1)
 

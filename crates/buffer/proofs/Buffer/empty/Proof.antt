@@ -1,3 +1,4 @@
+-- `Buffer::empty` meets its contract.
 use mathlib.Core.Path.{refl}
 use Rattle.lists.specs.Table.{counted}
 use Rattle.buffer.specs.View.{viewBatch, viewBuffer}
@@ -9,11 +10,9 @@ use Rattle.buffer.proofs.Buffer.empty.Reads as reads
 use Rattle.buffer.proofs.Buffer.empty.Lts as lts
 use Rattle.buffer.proofs.Batch.empty.Reads as empty-reads
 
--- src/lib.rt:86:13
 empty-requires : tie.Need-empty-requires
 empty-requires c κs = search needs
 
--- src/lib.rt:82:5
 returns : tie.Need-returns
 unfolding viewBuffer counted
 returns c = (refl, empty-form _ (c .empty .ensures))

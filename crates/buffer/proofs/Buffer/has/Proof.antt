@@ -1,3 +1,4 @@
+-- `Buffer::has` meets its contract.
 use borrow.Author.Needs.{needs}
 use Prim.Native.Nat.{_-_}
 use mathlib.Core.Bool.{true, false}
@@ -18,48 +19,37 @@ Inv-loop n self count i₀ i = Seeking viewBatch (λ b. eqb n (b .number)) (λ b
 abbrev μ-loop : tie.MeasureT-loop
 μ-loop n self count i₀ i = 32 - i
 
--- src/lib.rt:123:21
 cast-count : tie.Need-cast-count Inv-loop μ-loop
 cast-count c = search needs
 
--- src/lib.rt:125:9
 loop-holds : tie.Need-loop-holds Inv-loop μ-loop
 unfolding viewBuffer
 loop-holds c = search (seek-start, length-mapped)
 
--- src/lib.rt:127:17
 returns : tie.Need-returns Inv-loop μ-loop
 returns c = search seek-end
 
--- src/lib.rt:129:21
 mul-b : tie.Need-mul-b Inv-loop μ-loop
 mul-b c = search needs
 
--- src/lib.rt:129:21
 element-copy-out-b : tie.Need-element-copy-out-b Inv-loop μ-loop
 element-copy-out-b c = search needs
 
--- src/lib.rt:130:16
 is-requires : tie.Need-is-requires Inv-loop μ-loop
 is-requires c κs = search needs
 
--- src/lib.rt:131:17
 returns-2 : tie.Need-returns-2 Inv-loop μ-loop
 returns-2 c = search seek-hit
 
--- src/lib.rt:133:13
 add-i : tie.Need-add-i Inv-loop μ-loop
 add-i c = search needs
 
--- src/lib.rt:125:9
 loop-less : tie.Need-loop-less Inv-loop μ-loop
 loop-less c = search needs
 
--- src/lib.rt:125:9
 loop-again : tie.Need-loop-again Inv-loop μ-loop
 loop-again c = search seek-next
 
--- src/lib.rt:120:5
 returns-3 : tie.Need-returns-3 Inv-loop μ-loop
 returns-3 c = search seek-past
 

@@ -1,3 +1,4 @@
+-- `Buffer::is_empty` meets its contract.
 use borrow.Author.Needs.{needs}
 use Rattle.lists.proofs.Loops.{length-mapped}
 use Rattle.lists.proofs.Views.{counted-empty}
@@ -7,7 +8,6 @@ use Rattle.buffer.proofs.Buffer.is_empty.Tie as tie
 use Rattle.buffer.proofs.Buffer.is_empty.Reads as reads
 use Rattle.buffer.proofs.Buffer.is_empty.Lts as lts
 
--- src/lib.rt:103:5
 returns : tie.Need-returns
 unfolding viewBuffer
 returns c = search (counted-empty, length-mapped, needs)

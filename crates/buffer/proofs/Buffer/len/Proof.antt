@@ -1,3 +1,4 @@
+-- `Buffer::len` meets its contract.
 use Rattle.lists.proofs.Loops.{length-mapped}
 use Rattle.lists.proofs.Views.{counted-few, counted-full}
 use Rattle.buffer.specs.View.{viewBatch, viewBuffer}
@@ -7,20 +8,16 @@ use Rattle.buffer.proofs.Buffer.len.Tie as tie
 use Rattle.buffer.proofs.Buffer.len.Reads as reads
 use Rattle.buffer.proofs.Buffer.len.Lts as lts
 
--- src/lib.rt:97:27
 cast-if1 : tie.Need-cast-if1
 cast-if1 c = search needs
 
--- src/lib.rt:98:20
 cast-result : tie.Need-cast-result
 cast-result c = search needs
 
--- src/lib.rt:98:13
 returns : tie.Need-returns
 unfolding viewBuffer
 returns c = search (counted-full, length-mapped, needs)
 
--- src/lib.rt:93:5
 returns-2 : tie.Need-returns-2
 unfolding viewBuffer
 returns-2 c = search (counted-few, length-mapped, needs)

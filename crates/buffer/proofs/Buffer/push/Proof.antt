@@ -1,3 +1,4 @@
+-- `Buffer::push` meets its contract.
 use Rattle.lists.proofs.Loops.{length-mapped}
 use Rattle.lists.proofs.Views.{push-room, push-full}
 use Rattle.lists.proofs.Forms.{form-push}
@@ -9,28 +10,22 @@ use Rattle.buffer.proofs.Buffer.push.Tie as tie
 use Rattle.buffer.proofs.Buffer.push.Reads as reads
 use Rattle.buffer.proofs.Buffer.push.Lts as lts
 
--- src/lib.rt:163:18
 cast-at : tie.Need-cast-at
 cast-at c = search needs
 
--- src/lib.rt:165:13
 returns : tie.Need-returns
 unfolding viewBuffer
 returns c = (search (push-full, length-mapped, needs), λ u f. f)
 
--- src/lib.rt:168:9
 mul-b : tie.Need-mul-b
 mul-b c = search needs
 
--- src/lib.rt:168:9
 element-set-from-b : tie.Need-element-set-from-b
 element-set-from-b c = search needs
 
--- src/lib.rt:169:19
 add-t : tie.Need-add-t
 add-t c = search needs
 
--- src/lib.rt:159:5
 returns-2 : tie.Need-returns-2
 unfolding viewBuffer bufferForm
 returns-2 c = (search (push-room, length-mapped, needs), search (form-push, needs))

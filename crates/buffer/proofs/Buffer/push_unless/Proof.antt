@@ -1,3 +1,4 @@
+-- `Buffer::push_unless` meets its contract.
 use Rattle.lists.proofs.Views.{unless-picked, unless-kept}
 use borrow.Author.Needs.{needs}
 use Rattle.buffer.proofs.Buffer.push_unless.Statement.{statement}
@@ -7,19 +8,15 @@ use Rattle.buffer.proofs.Buffer.push_unless.Lts as lts
 use Rattle.buffer.proofs.Batch.is.Reads as is-reads
 use Rattle.buffer.proofs.Buffer.push.Reads as push-reads
 
--- src/lib.rt:177:12
 is-requires : tie.Need-is-requires
 is-requires c κs = search needs
 
--- src/lib.rt:178:13
 returns : tie.Need-returns
 returns c = (unless-picked _ _ (c .before .is .ensures) _ _ (c .if1 .taken), λ u f. f)
 
--- src/lib.rt:180:9
 push-requires : tie.Need-push-requires
 push-requires c κs = search needs
 
--- src/lib.rt:173:5
 returns-2 : tie.Need-returns-2
 returns-2 c = (unless-kept _ _ (c .before .before .is .ensures) _ _ (c .before .if1 .left) (c .push .ensures .0), c .push .ensures .1)
 

@@ -1,3 +1,4 @@
+-- `Buffer::run` meets its contract.
 use borrow.Author.Needs.{needs}
 use Prim.Native.Nat.{_-_}
 use mathlib.Core.Path.{_≡_}
@@ -24,44 +25,34 @@ Inv-loop q self count now₀ i₀ now i =
 abbrev μ-loop : tie.MeasureT-loop
 μ-loop q self count now₀ i₀ now i = 32 - i
 
--- src/lib.rt:226:21
 cast-count : tie.Need-cast-count Inv-loop μ-loop
 cast-count c = search needs
 
--- src/lib.rt:229:9
 loop-holds : tie.Need-loop-holds Inv-loop μ-loop
 unfolding viewBuffer
 loop-holds c = (work-start (search length-mapped) (run-all _ _ _), λ f. f)
 
--- src/lib.rt:231:17
 returns : tie.Need-returns Inv-loop μ-loop
 returns c = (search (work-end, needs), c .before .before .loop .inv .1)
 
--- src/lib.rt:233:21
 mul-b : tie.Need-mul-b Inv-loop μ-loop
 mul-b c = search needs
 
--- src/lib.rt:233:21
 element-copy-out-b : tie.Need-element-copy-out-b Inv-loop μ-loop
 element-copy-out-b c = search needs
 
--- src/lib.rt:234:13
 run-requires : tie.Need-run-requires Inv-loop μ-loop
 run-requires c κs = search needs
 
--- src/lib.rt:235:13
 add-i : tie.Need-add-i Inv-loop μ-loop
 add-i c = search needs
 
--- src/lib.rt:229:9
 loop-less : tie.Need-loop-less Inv-loop μ-loop
 loop-less c = search needs
 
--- src/lib.rt:229:9
 loop-again : tie.Need-loop-again Inv-loop μ-loop
 loop-again c = (search (work-next, needs), λ f. c .run .ensures .1 (c .before .before .before .before .loop .inv .1 f))
 
--- src/lib.rt:222:5
 returns-2 : tie.Need-returns-2 Inv-loop μ-loop
 returns-2 c = (search (work-past, needs), c .before .loop .inv .1)
 

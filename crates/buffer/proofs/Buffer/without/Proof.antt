@@ -1,3 +1,4 @@
+-- `Buffer::without` meets its contract.
 use borrow.Author.Needs.{needs}
 use Prim.Native.Nat.{_-_}
 use mathlib.Core.Path.{_≡_}
@@ -24,48 +25,37 @@ Inv-loop n self count kept₀ i₀ kept i =
 abbrev μ-loop : tie.MeasureT-loop
 μ-loop n self count kept₀ i₀ kept i = 32 - i
 
--- src/lib.rt:188:21
 cast-count : tie.Need-cast-count Inv-loop μ-loop
 cast-count c = search needs
 
--- src/lib.rt:189:13
 empty-requires : tie.Need-empty-requires Inv-loop μ-loop
 empty-requires c κs = search needs
 
--- src/lib.rt:191:9
 loop-holds : tie.Need-loop-holds Inv-loop μ-loop
 unfolding viewBuffer
 loop-holds c = (search (keep-start, length-mapped, needs), λ f. c .empty .ensures .1)
 
--- src/lib.rt:193:17
 returns : tie.Need-returns Inv-loop μ-loop
 returns c = (search (keep-end, needs), c .before .before .loop .inv .1)
 
--- src/lib.rt:195:21
 mul-b : tie.Need-mul-b Inv-loop μ-loop
 mul-b c = search needs
 
--- src/lib.rt:195:21
 element-copy-out-b : tie.Need-element-copy-out-b Inv-loop μ-loop
 element-copy-out-b c = search needs
 
--- src/lib.rt:196:13
 push-unless-requires : tie.Need-push-unless-requires Inv-loop μ-loop
 push-unless-requires c κs = search needs
 
--- src/lib.rt:197:13
 add-i : tie.Need-add-i Inv-loop μ-loop
 add-i c = search needs
 
--- src/lib.rt:191:9
 loop-less : tie.Need-loop-less Inv-loop μ-loop
 loop-less c = search needs
 
--- src/lib.rt:191:9
 loop-again : tie.Need-loop-again Inv-loop μ-loop
 loop-again c = (search (keep-next, needs), λ f. c .push-unless .ensures .1 (batch-form _ _ _ (search needs) f) (c .before .before .before .before .loop .inv .1 f))
 
--- src/lib.rt:184:5
 returns-2 : tie.Need-returns-2 Inv-loop μ-loop
 returns-2 c = (search (keep-past, needs), c .before .loop .inv .1)
 

@@ -1,3 +1,4 @@
+-- `Changes::empty` meets its contract.
 use mathlib.Core.Path.{refl}
 use Rattle.lists.specs.Table.{counted}
 use Rattle.changes.specs.View.{viewChanges}
@@ -9,11 +10,9 @@ use Rattle.changes.proofs.Changes.empty.Reads as reads
 use Rattle.changes.proofs.Changes.empty.Lts as lts
 use Rattle.changes.proofs.Update.empty.Reads as empty-reads
 
--- src/lib.rt:79:13
 empty-requires : tie.Need-empty-requires
 empty-requires c κs = search needs
 
--- src/lib.rt:75:5
 returns : tie.Need-returns
 unfolding viewChanges counted
 returns c = (refl, changes-empty _ (c .empty .ensures))

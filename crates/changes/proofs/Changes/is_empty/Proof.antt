@@ -1,3 +1,4 @@
+-- `Changes::is_empty` meets its contract.
 use borrow.Author.Needs.{needs}
 use Rattle.lists.proofs.Loops.{length-mapped}
 use Rattle.lists.proofs.Views.{counted-empty}
@@ -7,7 +8,6 @@ use Rattle.changes.proofs.Changes.is_empty.Tie as tie
 use Rattle.changes.proofs.Changes.is_empty.Reads as reads
 use Rattle.changes.proofs.Changes.is_empty.Lts as lts
 
--- src/lib.rt:96:5
 returns : tie.Need-returns
 unfolding viewChanges
 returns c = search (counted-empty, length-mapped, needs)

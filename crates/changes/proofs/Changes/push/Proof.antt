@@ -1,3 +1,4 @@
+-- `Changes::push` meets its contract.
 use Rattle.lists.proofs.Loops.{length-mapped}
 use Rattle.lists.proofs.Views.{push-room, push-full}
 use Rattle.lists.proofs.Forms.{form-push}
@@ -9,28 +10,22 @@ use Rattle.changes.proofs.Changes.push.Tie as tie
 use Rattle.changes.proofs.Changes.push.Reads as reads
 use Rattle.changes.proofs.Changes.push.Lts as lts
 
--- src/lib.rt:107:18
 cast-at : tie.Need-cast-at
 cast-at c = search needs
 
--- src/lib.rt:109:13
 returns : tie.Need-returns
 unfolding viewChanges
 returns c = (search (push-full, length-mapped, needs), λ u f. f)
 
--- src/lib.rt:112:9
 mul-c : tie.Need-mul-c
 mul-c c = search needs
 
--- src/lib.rt:112:9
 element-set-from-c : tie.Need-element-set-from-c
 element-set-from-c c = search needs
 
--- src/lib.rt:113:19
 add-t : tie.Need-add-t
 add-t c = search needs
 
--- src/lib.rt:103:5
 returns-2 : tie.Need-returns-2
 unfolding viewChanges changesForm
 returns-2 c = (search (push-room, length-mapped, needs), search (form-push, needs))

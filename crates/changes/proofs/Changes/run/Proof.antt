@@ -1,3 +1,4 @@
+-- `Changes::run` meets its contract.
 use borrow.Author.Needs.{needs}
 use Prim.Native.Nat.{_-_}
 use mathlib.Core.Path.{_≡_}
@@ -23,44 +24,34 @@ Inv-loop q self count now₀ i₀ now i =
 abbrev μ-loop : tie.MeasureT-loop
 μ-loop q self count now₀ i₀ now i = 8 - i
 
--- src/lib.rt:174:21
 cast-count : tie.Need-cast-count Inv-loop μ-loop
 cast-count c = search needs
 
--- src/lib.rt:177:9
 loop-holds : tie.Need-loop-holds Inv-loop μ-loop
 unfolding viewChanges
 loop-holds c = (work-start (search length-mapped) (run-fold _ _ _), λ f. f)
 
--- src/lib.rt:179:17
 returns : tie.Need-returns Inv-loop μ-loop
 returns c = (search (work-end, needs), c .before .before .loop .inv .1)
 
--- src/lib.rt:181:21
 mul-c : tie.Need-mul-c Inv-loop μ-loop
 mul-c c = search needs
 
--- src/lib.rt:181:21
 element-copy-out-c : tie.Need-element-copy-out-c Inv-loop μ-loop
 element-copy-out-c c = search needs
 
--- src/lib.rt:182:13
 after-requires : tie.Need-after-requires Inv-loop μ-loop
 after-requires c κs = search needs
 
--- src/lib.rt:183:13
 add-i : tie.Need-add-i Inv-loop μ-loop
 add-i c = search needs
 
--- src/lib.rt:177:9
 loop-less : tie.Need-loop-less Inv-loop μ-loop
 loop-less c = search needs
 
--- src/lib.rt:177:9
 loop-again : tie.Need-loop-again Inv-loop μ-loop
 loop-again c = (search (work-next, needs), λ f. c .after .ensures .1 (c .before .before .before .before .loop .inv .1 f))
 
--- src/lib.rt:170:5
 returns-2 : tie.Need-returns-2 Inv-loop μ-loop
 returns-2 c = (search (work-past, needs), c .before .loop .inv .1)
 

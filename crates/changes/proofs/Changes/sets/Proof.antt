@@ -1,3 +1,4 @@
+-- `Changes::sets` meets its contract.
 use borrow.Author.Needs.{needs}
 use Prim.Native.Nat.{_-_}
 use mathlib.Core.Bool.{true, false}
@@ -19,48 +20,37 @@ Inv-loop q self count i₀ i = Seeking viewUpdate (C.sets (viewPlace q)) (λ c. 
 abbrev μ-loop : tie.MeasureT-loop
 μ-loop q self count i₀ i = 8 - i
 
--- src/lib.rt:140:21
 cast-count : tie.Need-cast-count Inv-loop μ-loop
 cast-count c = search needs
 
--- src/lib.rt:142:9
 loop-holds : tie.Need-loop-holds Inv-loop μ-loop
 unfolding viewChanges
 loop-holds c = search (seek-start, length-mapped)
 
--- src/lib.rt:144:17
 returns : tie.Need-returns Inv-loop μ-loop
 returns c = search seek-end
 
--- src/lib.rt:146:21
 mul-c : tie.Need-mul-c Inv-loop μ-loop
 mul-c c = search needs
 
--- src/lib.rt:146:21
 element-copy-out-c : tie.Need-element-copy-out-c Inv-loop μ-loop
 element-copy-out-c c = search needs
 
--- src/lib.rt:147:16
 sets-requires : tie.Need-sets-requires Inv-loop μ-loop
 sets-requires c κs = search needs
 
--- src/lib.rt:148:17
 returns-2 : tie.Need-returns-2 Inv-loop μ-loop
 returns-2 c = search seek-hit
 
--- src/lib.rt:150:13
 add-i : tie.Need-add-i Inv-loop μ-loop
 add-i c = search needs
 
--- src/lib.rt:142:9
 loop-less : tie.Need-loop-less Inv-loop μ-loop
 loop-less c = search needs
 
--- src/lib.rt:142:9
 loop-again : tie.Need-loop-again Inv-loop μ-loop
 loop-again c = search seek-next
 
--- src/lib.rt:137:5
 returns-3 : tie.Need-returns-3 Inv-loop μ-loop
 returns-3 c = search seek-past
 

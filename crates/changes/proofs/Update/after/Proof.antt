@@ -1,3 +1,4 @@
+-- `Update::after` meets its contract.
 use Rattle.changes.proofs.ChangeLaws.{after-here, after-elsewhere}
 use Rattle.field.proofs.Claims.{answer-field}
 use borrow.Author.Needs.{needs}
@@ -8,19 +9,15 @@ use Rattle.changes.proofs.Update.after.Lts as lts
 use Rattle.changes.proofs.Update.is_at.Reads as is-at-reads
 use Rattle.field.proofs.Field.changed.Reads as changed-reads
 
--- src/lib.rt:72:12
 is-at-requires : tie.Need-is-at-requires
 is-at-requires c κs = search needs
 
--- src/lib.rt:73:17
 changed-requires : tie.Need-changed-requires
 changed-requires c κs = search needs
 
--- src/lib.rt:74:13
 returns : tie.Need-returns
 returns c = (search (after-here, answer-field, needs), c .before .changed .ensures .1 .0)
 
--- src/lib.rt:68:5
 returns-2 : tie.Need-returns-2
 returns-2 c = (search after-elsewhere, λ h. h)
 

@@ -1,3 +1,4 @@
+-- `Update::empty` meets its contract.
 use Rattle.changes.proofs.ChangeLaws.{unused-is}
 use borrow.Author.Needs.{needs}
 use Rattle.changes.proofs.Update.empty.Statement.{statement}
@@ -6,11 +7,9 @@ use Rattle.changes.proofs.Update.empty.Reads as reads
 use Rattle.changes.proofs.Update.empty.Lts as lts
 use Rattle.keys.proofs.Place.empty.Reads as empty-reads
 
--- src/lib.rt:40:13
 empty-requires : tie.Need-empty-requires
 empty-requires c κs = search needs
 
--- src/lib.rt:37:5
 returns : tie.Need-returns
 returns c = unused-is _ (c .empty .ensures .1)
 

@@ -1,3 +1,4 @@
+-- `Update::is_at` meets its contract.
 use Rattle.changes.proofs.ChangeLaws.{at-is}
 use borrow.Author.Needs.{needs}
 use Rattle.changes.proofs.Update.is_at.Statement.{statement}
@@ -6,11 +7,9 @@ use Rattle.changes.proofs.Update.is_at.Reads as reads
 use Rattle.changes.proofs.Update.is_at.Lts as lts
 use Rattle.keys.proofs.Place.is.Reads as is-reads
 
--- src/lib.rt:52:9
 is-requires : tie.Need-is-requires
 is-requires c κs = search needs
 
--- src/lib.rt:48:5
 returns : tie.Need-returns
 returns c = at-is _ _ (c .is .ensures)
 

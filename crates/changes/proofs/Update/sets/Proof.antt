@@ -1,3 +1,4 @@
+-- `Update::sets` meets its contract.
 use Rattle.changes.proofs.ChangeLaws.{sets-here, sets-elsewhere}
 use borrow.Author.Needs.{needs}
 use Rattle.changes.proofs.Update.sets.Statement.{statement}
@@ -7,19 +8,15 @@ use Rattle.changes.proofs.Update.sets.Lts as lts
 use Rattle.changes.proofs.Update.is_at.Reads as is-at-reads
 use Rattle.changes.proofs.is_set.Reads as is-set-reads
 
--- src/lib.rt:59:12
 is-at-requires : tie.Need-is-at-requires
 is-at-requires c κs = search needs
 
--- src/lib.rt:60:13
 is-set-requires : tie.Need-is-set-requires
 is-set-requires c κs = search needs
 
--- src/lib.rt:60:13
 returns : tie.Need-returns
 returns c = search sets-here
 
--- src/lib.rt:56:5
 returns-2 : tie.Need-returns-2
 returns-2 c = search sets-elsewhere
 

@@ -1,3 +1,4 @@
+-- `Key::empty` meets its contract.
 use mathlib.Core.Path.{refl}
 use Rattle.lists.specs.Table.{counted}
 use Rattle.keys.specs.View.{viewKey}
@@ -9,11 +10,9 @@ use Rattle.keys.proofs.Key.empty.Reads as reads
 use Rattle.keys.proofs.Key.empty.Lts as lts
 use Rattle.keys.proofs.Place.empty.Reads as empty-reads
 
--- src/lib.rt:52:13
 empty-requires : tie.Need-empty-requires
 empty-requires c κs = search needs
 
--- src/lib.rt:48:5
 returns : tie.Need-returns
 unfolding viewKey counted
 returns c = (refl, key-form-empty _ (c .empty .ensures .1))

@@ -1,3 +1,4 @@
+-- `Key::is_empty` meets its contract.
 use borrow.Author.Needs.{needs}
 use native.Mathlib.Omega.{arith}
 use Rattle.lists.proofs.Loops.{length-mapped}
@@ -8,7 +9,6 @@ use Rattle.keys.proofs.Key.is_empty.Tie as tie
 use Rattle.keys.proofs.Key.is_empty.Reads as reads
 use Rattle.keys.proofs.Key.is_empty.Lts as lts
 
--- src/lib.rt:69:5
 returns : tie.Need-returns
 unfolding viewKey
 returns c = search (counted-empty, length-mapped, needs)

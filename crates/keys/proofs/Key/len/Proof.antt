@@ -1,3 +1,4 @@
+-- `Key::len` meets its contract.
 use Rattle.lists.proofs.Loops.{length-mapped}
 use Rattle.lists.proofs.Views.{counted-few, counted-full}
 use Rattle.keys.specs.View.{viewKey}
@@ -7,20 +8,16 @@ use Rattle.keys.proofs.Key.len.Tie as tie
 use Rattle.keys.proofs.Key.len.Reads as reads
 use Rattle.keys.proofs.Key.len.Lts as lts
 
--- src/lib.rt:63:27
 cast-if1 : tie.Need-cast-if1
 cast-if1 c = search needs
 
--- src/lib.rt:64:20
 cast-result : tie.Need-cast-result
 cast-result c = search needs
 
--- src/lib.rt:64:13
 returns : tie.Need-returns
 unfolding viewKey
 returns c = search (counted-full, length-mapped, needs)
 
--- src/lib.rt:59:5
 returns-2 : tie.Need-returns-2
 unfolding viewKey
 returns-2 c = search (counted-few, length-mapped, needs)

@@ -1,3 +1,4 @@
+-- `Key::place` meets its contract.
 use Rattle.lists.proofs.Loops.{length-mapped}
 use Rattle.keys.proofs.KeyLaws.{place-at, place-unused, place-past}
 use borrow.Author.Needs.{needs}
@@ -7,31 +8,24 @@ use Rattle.keys.proofs.Key.place.Reads as reads
 use Rattle.keys.proofs.Key.place.Lts as lts
 use Rattle.keys.proofs.Place.empty.Reads as empty-reads
 
--- src/lib.rt:81:13
 empty-requires : tie.Need-empty-requires
 empty-requires c κs = search needs
 
--- src/lib.rt:81:13
 returns : tie.Need-returns
 returns c = search (place-unused, length-mapped, needs)
 
--- src/lib.rt:84:13
 empty-requires-2 : tie.Need-empty-requires-2
 empty-requires-2 c κs = search needs
 
--- src/lib.rt:84:13
 returns-2 : tie.Need-returns-2
 returns-2 c = search (place-past, length-mapped, needs)
 
--- src/lib.rt:86:9
 mul-result : tie.Need-mul-result
 mul-result c = search needs
 
--- src/lib.rt:86:9
 element-copy-out-result : tie.Need-element-copy-out-result
 element-copy-out-result c = search needs
 
--- src/lib.rt:76:5
 returns-3 : tie.Need-returns-3
 returns-3 c = search (place-at, length-mapped, needs)
 

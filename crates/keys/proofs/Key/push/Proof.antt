@@ -1,3 +1,4 @@
+-- `Key::push` meets its contract.
 use Rattle.lists.proofs.Loops.{length-mapped}
 use Rattle.lists.proofs.Views.{push-room, push-full}
 use Rattle.lists.proofs.Forms.{form-push}
@@ -9,28 +10,22 @@ use Rattle.keys.proofs.Key.push.Tie as tie
 use Rattle.keys.proofs.Key.push.Reads as reads
 use Rattle.keys.proofs.Key.push.Lts as lts
 
--- src/lib.rt:94:18
 cast-at : tie.Need-cast-at
 cast-at c = search needs
 
--- src/lib.rt:96:13
 returns : tie.Need-returns
 unfolding viewKey
 returns c = (search (push-full, length-mapped, needs), λ f. f)
 
--- src/lib.rt:99:9
 mul-q : tie.Need-mul-q
 mul-q c = search needs
 
--- src/lib.rt:99:9
 element-set-from-q : tie.Need-element-set-from-q
 element-set-from-q c = search needs
 
--- src/lib.rt:100:19
 add-t : tie.Need-add-t
 add-t c = search needs
 
--- src/lib.rt:90:5
 returns-2 : tie.Need-returns-2
 unfolding viewKey keyForm
 returns-2 c = (search (push-room, length-mapped, needs), search (form-push, needs))

@@ -1,3 +1,4 @@
+-- `Key::stands_from` meets its contract.
 use borrow.Author.Needs.{needs}
 use Prim.Native.Nat.{_-_}
 use mathlib.Core.Bool.{true, false}
@@ -20,51 +21,39 @@ Inv-loop q from self count i₀ i = Seeking viewPlace (S.samePlace (viewPlace q)
 abbrev μ-loop : tie.MeasureT-loop
 μ-loop q from self count i₀ i = 4 - i
 
--- src/lib.rt:127:13
 returns : tie.Need-returns Inv-loop μ-loop
 returns c = search (stands-past, length-mapped, needs)
 
--- src/lib.rt:129:21
 cast-count : tie.Need-cast-count Inv-loop μ-loop
 cast-count c = search needs
 
--- src/lib.rt:131:9
 loop-holds : tie.Need-loop-holds Inv-loop μ-loop
 loop-holds c = search (stands-start, length-mapped, needs)
 
--- src/lib.rt:133:17
 returns-2 : tie.Need-returns-2 Inv-loop μ-loop
 returns-2 c = search seek-end
 
--- src/lib.rt:135:21
 mul-p : tie.Need-mul-p Inv-loop μ-loop
 mul-p c = search needs
 
--- src/lib.rt:135:21
 element-copy-out-p : tie.Need-element-copy-out-p Inv-loop μ-loop
 element-copy-out-p c = search needs
 
--- src/lib.rt:136:16
 is-requires : tie.Need-is-requires Inv-loop μ-loop
 is-requires c κs = search needs
 
--- src/lib.rt:137:17
 returns-3 : tie.Need-returns-3 Inv-loop μ-loop
 returns-3 c = search seek-hit
 
--- src/lib.rt:139:13
 add-i : tie.Need-add-i Inv-loop μ-loop
 add-i c = search needs
 
--- src/lib.rt:131:9
 loop-less : tie.Need-loop-less Inv-loop μ-loop
 loop-less c = search needs
 
--- src/lib.rt:131:9
 loop-again : tie.Need-loop-again Inv-loop μ-loop
 loop-again c = search seek-next
 
--- src/lib.rt:123:5
 returns-4 : tie.Need-returns-4 Inv-loop μ-loop
 returns-4 c = search seek-past
 

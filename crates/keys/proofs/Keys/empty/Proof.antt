@@ -1,3 +1,4 @@
+-- `Keys::empty` meets its contract.
 use Rattle.keys.proofs.KeyLaws.{keys-empty, keys-form}
 use borrow.Author.Needs.{needs}
 use Rattle.keys.proofs.Keys.empty.Statement.{statement}
@@ -6,11 +7,9 @@ use Rattle.keys.proofs.Keys.empty.Reads as reads
 use Rattle.keys.proofs.Keys.empty.Lts as lts
 use Rattle.keys.proofs.Key.empty.Reads as empty-reads
 
--- src/lib.rt:173:13
 empty-requires : tie.Need-empty-requires
 empty-requires c κs = search needs
 
--- src/lib.rt:169:5
 returns : tie.Need-returns
 returns c = (keys-empty _ (c .empty .ensures .0), keys-form _ (c .empty .ensures .1))
 

@@ -1,3 +1,4 @@
+-- `Keys::key` meets its contract.
 use Rattle.lists.proofs.Loops.{length-mapped}
 use Rattle.keys.proofs.KeyLaws.{key-past, key-at, key-form}
 use borrow.Author.Needs.{needs}
@@ -7,23 +8,18 @@ use Rattle.keys.proofs.Keys.key.Reads as reads
 use Rattle.keys.proofs.Keys.key.Lts as lts
 use Rattle.keys.proofs.Key.empty.Reads as empty-reads
 
--- src/lib.rt:185:13
 empty-requires : tie.Need-empty-requires
 empty-requires c κs = search needs
 
--- src/lib.rt:185:13
 returns : tie.Need-returns
 returns c = (search (key-past, length-mapped, needs), λ f. c .empty .ensures .1)
 
--- src/lib.rt:187:9
 mul-result : tie.Need-mul-result
 mul-result c = search needs
 
--- src/lib.rt:187:9
 element-copy-out-result : tie.Need-element-copy-out-result
 element-copy-out-result c = search needs
 
--- src/lib.rt:179:5
 returns-2 : tie.Need-returns-2
 returns-2 c = (search (key-at, length-mapped, needs), search (key-form, length-mapped, needs))
 

@@ -1,3 +1,4 @@
+-- `Keys::with` meets its contract.
 use native.Mathlib.Omega.{arith}
 use Rattle.lists.proofs.Loops.{length-mapped}
 use Rattle.keys.proofs.KeyLaws.{keys-with, with-form}
@@ -7,19 +8,15 @@ use Rattle.keys.proofs.Keys.with.Tie as tie
 use Rattle.keys.proofs.Keys.with.Reads as reads
 use Rattle.keys.proofs.Keys.with.Lts as lts
 
--- src/lib.rt:197:13
 returns : tie.Need-returns
 returns c = (λ h. absurd (omega arith), λ f g. f)
 
--- src/lib.rt:200:9
 mul-key : tie.Need-mul-key
 mul-key c = search needs
 
--- src/lib.rt:200:9
 element-set-from-key : tie.Need-element-set-from-key
 element-set-from-key c = search needs
 
--- src/lib.rt:191:5
 returns-2 : tie.Need-returns-2
 returns-2 c = (search (keys-with, length-mapped, needs), search (with-form, length-mapped, needs))
 

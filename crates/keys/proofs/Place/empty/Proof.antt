@@ -1,3 +1,4 @@
+-- `Place::empty` meets its contract.
 use mathlib.Core.Path.{refl}
 use Rattle.keys.specs.View.{viewPlace}
 use Rattle.keys.specs.Form.{isBlank}
@@ -6,7 +7,6 @@ use Rattle.keys.proofs.Place.empty.Tie as tie
 use Rattle.keys.proofs.Place.empty.Reads as reads
 use Rattle.keys.proofs.Place.empty.Lts as lts
 
--- src/lib.rt:20:5
 returns : tie.Need-returns
 unfolding viewPlace isBlank
 returns c = (refl, refl)

@@ -1,14 +1,13 @@
+-- `Place::is` meets its contract.
 use Rattle.keys.proofs.KeyLaws.{place-document, place-elsewhere}
 use Rattle.keys.proofs.Place.is.Statement.{statement}
 use Rattle.keys.proofs.Place.is.Tie as tie
 use Rattle.keys.proofs.Place.is.Reads as reads
 use Rattle.keys.proofs.Place.is.Lts as lts
 
--- src/lib.rt:33:13
 returns : tie.Need-returns
 returns c = search place-document
 
--- src/lib.rt:29:5
 returns-2 : tie.Need-returns-2
 returns-2 c = place-elsewhere _ _ (c .if1 .left)
 

@@ -1,3 +1,4 @@
+-- `Picks::empty` meets its contract.
 use mathlib.Core.Path.{refl}
 use Rattle.lists.specs.Table.{counted, tableForm}
 use Rattle.rows.specs.View.{viewPicks, picksForm}
@@ -6,7 +7,6 @@ use Rattle.rows.proofs.Picks.empty.Tie as tie
 use Rattle.rows.proofs.Picks.empty.Reads as reads
 use Rattle.rows.proofs.Picks.empty.Lts as lts
 
--- src/lib.rt:27:5
 returns : tie.Need-returns
 unfolding viewPicks picksForm counted tableForm
 returns c = (refl, refl)

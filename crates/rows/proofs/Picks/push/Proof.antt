@@ -1,3 +1,4 @@
+-- `Picks::push` meets its contract.
 use mathlib.Core.Path.{refl}
 use Rattle.lists.proofs.Views.{push-room, push-full}
 use Rattle.lists.proofs.Forms.{form-push}
@@ -8,28 +9,22 @@ use Rattle.rows.proofs.Picks.push.Tie as tie
 use Rattle.rows.proofs.Picks.push.Reads as reads
 use Rattle.rows.proofs.Picks.push.Lts as lts
 
--- src/lib.rt:60:18
 cast-at : tie.Need-cast-at
 cast-at c = search needs
 
--- src/lib.rt:62:13
 returns : tie.Need-returns
 unfolding viewPicks
 returns c = (search (push-full, needs), λ f. f)
 
--- src/lib.rt:65:9
 mul-t : tie.Need-mul-t
 mul-t c = search needs
 
--- src/lib.rt:65:9
 element-write-t : tie.Need-element-write-t
 element-write-t c = search needs
 
--- src/lib.rt:66:19
 add-t : tie.Need-add-t
 add-t c = search needs
 
--- src/lib.rt:56:5
 returns-2 : tie.Need-returns-2
 unfolding viewPicks picksForm
 returns-2 c = (search (push-room, needs), search (form-push, needs))

@@ -1,3 +1,4 @@
+-- `Rows::empty` meets its contract.
 use mathlib.Core.Path.{refl}
 use Rattle.lists.specs.Table.{counted, tableForm}
 use Rattle.rows.specs.View.{viewRows, rowsForm}
@@ -6,7 +7,6 @@ use Rattle.rows.proofs.Rows.empty.Tie as tie
 use Rattle.rows.proofs.Rows.empty.Reads as reads
 use Rattle.rows.proofs.Rows.empty.Lts as lts
 
--- src/lib.rt:80:5
 returns : tie.Need-returns
 unfolding viewRows rowsForm counted tableForm
 returns c = (refl, refl)

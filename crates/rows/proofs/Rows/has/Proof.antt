@@ -1,3 +1,4 @@
+-- `Rows::has` meets its contract.
 use borrow.Author.Needs.{needs}
 use Prim.Native.Nat.{_-_}
 use mathlib.Core.Bool.{true, false}
@@ -17,48 +18,37 @@ Inv-loop n self count i₀ i = Seeking (λ m. m) (λ m. eqb n m) (λ m. true) fa
 abbrev μ-loop : tie.MeasureT-loop
 μ-loop n self count i₀ i = 48 - i
 
--- src/lib.rt:93:21
 cast-count : tie.Need-cast-count Inv-loop μ-loop
 cast-count c = search needs
 
--- src/lib.rt:95:9
 loop-holds : tie.Need-loop-holds Inv-loop μ-loop
 unfolding viewRows
 loop-holds c = search (seek-start, needs)
 
--- src/lib.rt:97:17
 returns : tie.Need-returns Inv-loop μ-loop
 returns c = search seek-end
 
--- src/lib.rt:99:21
 mul-m : tie.Need-mul-m Inv-loop μ-loop
 mul-m c = search needs
 
--- src/lib.rt:99:21
 element-copy-out-m : tie.Need-element-copy-out-m Inv-loop μ-loop
 element-copy-out-m c = search needs
 
--- src/lib.rt:100:16
 same-requires : tie.Need-same-requires Inv-loop μ-loop
 same-requires c κs = search needs
 
--- src/lib.rt:101:17
 returns-2 : tie.Need-returns-2 Inv-loop μ-loop
 returns-2 c = search seek-hit
 
--- src/lib.rt:103:13
 add-i : tie.Need-add-i Inv-loop μ-loop
 add-i c = search needs
 
--- src/lib.rt:95:9
 loop-less : tie.Need-loop-less Inv-loop μ-loop
 loop-less c = search needs
 
--- src/lib.rt:95:9
 loop-again : tie.Need-loop-again Inv-loop μ-loop
 loop-again c = search seek-next
 
--- src/lib.rt:90:5
 returns-3 : tie.Need-returns-3 Inv-loop μ-loop
 returns-3 c = search seek-past
 

@@ -1,3 +1,4 @@
+-- `Rows::len` meets its contract.
 use Rattle.lists.proofs.Views.{counted-few, counted-full}
 use Rattle.rows.specs.View.{viewRows}
 use borrow.Author.Needs.{needs}
@@ -6,20 +7,16 @@ use Rattle.rows.proofs.Rows.len.Tie as tie
 use Rattle.rows.proofs.Rows.len.Reads as reads
 use Rattle.rows.proofs.Rows.len.Lts as lts
 
--- src/lib.rt:127:27
 cast-if1 : tie.Need-cast-if1
 cast-if1 c = search needs
 
--- src/lib.rt:128:20
 cast-result : tie.Need-cast-result
 cast-result c = search needs
 
--- src/lib.rt:128:13
 returns : tie.Need-returns
 unfolding viewRows
 returns c = search (counted-full, needs)
 
--- src/lib.rt:123:5
 returns-2 : tie.Need-returns-2
 unfolding viewRows
 returns-2 c = search (counted-few, needs)

@@ -1,3 +1,4 @@
+-- `Rows::push_unless` meets its contract.
 use Rattle.lists.proofs.Views.{unless-picked, unless-kept}
 use borrow.Author.Needs.{needs}
 use Rattle.rows.proofs.Rows.push_unless.Statement.{statement}
@@ -7,19 +8,15 @@ use Rattle.rows.proofs.Rows.push_unless.Lts as lts
 use Rattle.rows.proofs.Picks.has.Reads as has-reads
 use Rattle.rows.proofs.Rows.push.Reads as push-reads
 
--- src/lib.rt:137:12
 has-requires : tie.Need-has-requires
 has-requires c κs = search needs
 
--- src/lib.rt:138:13
 returns : tie.Need-returns
 returns c = (unless-picked _ _ (c .before .has .ensures) _ _ (c .if1 .taken), λ f. f)
 
--- src/lib.rt:140:9
 push-requires : tie.Need-push-requires
 push-requires c κs = search needs
 
--- src/lib.rt:133:5
 returns-2 : tie.Need-returns-2
 returns-2 c = (unless-kept _ _ (c .before .before .has .ensures) _ _ (c .before .if1 .left) (c .push .ensures .0), c .push .ensures .1)
 

@@ -1,3 +1,4 @@
+-- `Rows::without` meets its contract.
 use borrow.Author.Needs.{needs}
 use Prim.Native.Nat.{_-_}
 use mathlib.Core.Path.{_≡_, refl}
@@ -20,48 +21,37 @@ Inv-loop picks self count kept₀ i₀ kept i =
 abbrev μ-loop : tie.MeasureT-loop
 μ-loop picks self count kept₀ i₀ kept i = 48 - i
 
--- src/lib.rt:148:21
 cast-count : tie.Need-cast-count Inv-loop μ-loop
 cast-count c = search needs
 
--- src/lib.rt:149:13
 empty-requires : tie.Need-empty-requires Inv-loop μ-loop
 empty-requires c κs = search needs
 
--- src/lib.rt:151:9
 loop-holds : tie.Need-loop-holds Inv-loop μ-loop
 unfolding viewRows
 loop-holds c = (search (keep-start, needs), c .empty .ensures .1)
 
--- src/lib.rt:153:17
 returns : tie.Need-returns Inv-loop μ-loop
 returns c = (search (keep-end, needs), c .before .before .loop .inv .1)
 
--- src/lib.rt:155:21
 mul-n : tie.Need-mul-n Inv-loop μ-loop
 mul-n c = search needs
 
--- src/lib.rt:155:21
 element-copy-out-n : tie.Need-element-copy-out-n Inv-loop μ-loop
 element-copy-out-n c = search needs
 
--- src/lib.rt:156:13
 push-unless-requires : tie.Need-push-unless-requires Inv-loop μ-loop
 push-unless-requires c κs = search needs
 
--- src/lib.rt:157:13
 add-i : tie.Need-add-i Inv-loop μ-loop
 add-i c = search needs
 
--- src/lib.rt:151:9
 loop-less : tie.Need-loop-less Inv-loop μ-loop
 loop-less c = search needs
 
--- src/lib.rt:151:9
 loop-again : tie.Need-loop-again Inv-loop μ-loop
 loop-again c = (search (keep-next, needs), c .push-unless .ensures .1 (c .before .before .before .before .loop .inv .1))
 
--- src/lib.rt:144:5
 returns-2 : tie.Need-returns-2 Inv-loop μ-loop
 returns-2 c = (search (keep-past, needs), c .before .loop .inv .1)
 

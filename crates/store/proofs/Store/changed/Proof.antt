@@ -1,3 +1,4 @@
+-- `Store::changed` meets its contract.
 use Rattle.lists.proofs.Loops.{length-mapped}
 use Rattle.store.proofs.StoreLaws.{changed-past, changed-at, changed-form}
 use borrow.Author.Needs.{needs}
@@ -8,35 +9,27 @@ use Rattle.store.proofs.Store.changed.Lts as lts
 use Rattle.changes.proofs.Update.after.Reads as after-reads
 use Rattle.store.proofs.index_of.Reads as index-of-reads
 
--- src/lib.rt:70:13
 index-of-requires : tie.Need-index-of-requires
 index-of-requires c κs = search needs
 
--- src/lib.rt:72:13
 returns : tie.Need-returns
 returns c = (search (changed-past, needs), λ f. f)
 
--- src/lib.rt:74:17
 mul-f : tie.Need-mul-f
 mul-f c = search needs
 
--- src/lib.rt:74:17
 element-copy-out-f : tie.Need-element-copy-out-f
 element-copy-out-f c = search needs
 
--- src/lib.rt:76:23
 after-requires : tie.Need-after-requires
 after-requires c κs = search needs
 
--- src/lib.rt:76:9
 mul-t9 : tie.Need-mul-t9
 mul-t9 c = search needs
 
--- src/lib.rt:76:9
 element-set-from-t : tie.Need-element-set-from-t
 element-set-from-t c = search needs
 
--- src/lib.rt:65:5
 returns-2 : tie.Need-returns-2
 returns-2 c = (search (changed-at, length-mapped, needs), changed-form _ _ _ _ (search needs) (c .after .ensures .1))
 

@@ -1,3 +1,4 @@
+-- `Store::empty` meets its contract.
 use Rattle.store.proofs.StoreLaws.{store-empty, empty-form}
 use borrow.Author.Needs.{needs}
 use Rattle.store.proofs.Store.empty.Statement.{statement}
@@ -6,11 +7,9 @@ use Rattle.store.proofs.Store.empty.Reads as reads
 use Rattle.store.proofs.Store.empty.Lts as lts
 use Rattle.field.proofs.Field.empty.Reads as empty-reads
 
--- src/lib.rt:47:13
 empty-requires : tie.Need-empty-requires
 empty-requires c κs = search needs
 
--- src/lib.rt:43:5
 returns : tie.Need-returns
 returns c = (store-empty _ (c .empty .ensures .0), empty-form _ (c .empty .ensures .1))
 

@@ -1,3 +1,4 @@
+-- `Store::field` meets its contract.
 use Rattle.lists.proofs.Loops.{length-mapped}
 use Rattle.store.proofs.StoreLaws.{field-past, field-at, field-form}
 use borrow.Author.Needs.{needs}
@@ -8,27 +9,21 @@ use Rattle.store.proofs.Store.field.Lts as lts
 use Rattle.field.proofs.Field.empty.Reads as empty-reads
 use Rattle.store.proofs.index_of.Reads as index-of-reads
 
--- src/lib.rt:57:13
 index-of-requires : tie.Need-index-of-requires
 index-of-requires c κs = search needs
 
--- src/lib.rt:59:13
 empty-requires : tie.Need-empty-requires
 empty-requires c κs = search needs
 
--- src/lib.rt:59:13
 returns : tie.Need-returns
 returns c = (search (field-past, needs), λ f. c .empty .ensures .1)
 
--- src/lib.rt:61:9
 mul-result : tie.Need-mul-result
 mul-result c = search needs
 
--- src/lib.rt:61:9
 element-copy-out-result : tie.Need-element-copy-out-result
 element-copy-out-result c = search needs
 
--- src/lib.rt:53:5
 returns-2 : tie.Need-returns-2
 returns-2 c = (search (field-at, length-mapped, needs), search (field-form, length-mapped, needs))
 

@@ -1,3 +1,4 @@
+-- `Hand::answered` meets its contract.
 use Rattle.workers.specs.Form.{handForm}
 use Rattle.workers.specs.View.{viewHand}
 use Rattle.rules.specs.Tables as M
@@ -10,11 +11,9 @@ use Rattle.workers.proofs.Hand.answered.Reads as reads
 use Rattle.workers.proofs.Hand.answered.Lts as lts
 use Rattle.workers.proofs.Hand.handed.Reads as handed-reads
 
--- src/lib.rt:83:13
 handed-requires : tie.Need-handed-requires
 handed-requires c κs = search needs
 
--- src/lib.rt:79:5
 returns : tie.Need-returns
 unfolding viewHand handForm
 returns c = (ap (λ n. M.holds n true) (c .handed .ensures), refl)

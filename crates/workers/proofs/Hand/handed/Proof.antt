@@ -1,14 +1,13 @@
+-- `Hand::handed` meets its contract.
 use Rattle.workers.proofs.HandLaws.{handed-full, handed-empty}
 use Rattle.workers.proofs.Hand.handed.Statement.{statement}
 use Rattle.workers.proofs.Hand.handed.Tie as tie
 use Rattle.workers.proofs.Hand.handed.Reads as reads
 use Rattle.workers.proofs.Hand.handed.Lts as lts
 
--- src/lib.rt:49:13
 returns : tie.Need-returns
 returns c = search handed-full
 
--- src/lib.rt:45:5
 returns-2 : tie.Need-returns-2
 returns-2 c = search handed-empty
 

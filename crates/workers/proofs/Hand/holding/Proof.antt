@@ -1,3 +1,4 @@
+-- `Hand::holding` meets its contract.
 use Rattle.workers.specs.Form.{handForm}
 use Rattle.workers.specs.View.{viewHand}
 use mathlib.Core.Path.{refl}
@@ -6,7 +7,6 @@ use Rattle.workers.proofs.Hand.holding.Tie as tie
 use Rattle.workers.proofs.Hand.holding.Reads as reads
 use Rattle.workers.proofs.Hand.holding.Lts as lts
 
--- src/lib.rt:33:5
 returns : tie.Need-returns
 unfolding viewHand handForm
 returns c = (refl, refl)

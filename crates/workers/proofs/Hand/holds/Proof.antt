@@ -1,14 +1,13 @@
+-- `Hand::holds` meets its contract.
 use Rattle.workers.proofs.HandLaws.{holds-full, holds-empty}
 use Rattle.workers.proofs.Hand.holds.Statement.{statement}
 use Rattle.workers.proofs.Hand.holds.Tie as tie
 use Rattle.workers.proofs.Hand.holds.Reads as reads
 use Rattle.workers.proofs.Hand.holds.Lts as lts
 
--- src/lib.rt:73:13
 returns : tie.Need-returns
 returns c = search holds-full
 
--- src/lib.rt:69:5
 returns-2 : tie.Need-returns-2
 returns-2 c = search holds-empty
 

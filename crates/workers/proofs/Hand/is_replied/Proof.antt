@@ -1,14 +1,13 @@
+-- `Hand::is_replied` meets its contract.
 use Rattle.workers.proofs.HandLaws.{replied-full, replied-empty}
 use Rattle.workers.proofs.Hand.is_replied.Statement.{statement}
 use Rattle.workers.proofs.Hand.is_replied.Tie as tie
 use Rattle.workers.proofs.Hand.is_replied.Reads as reads
 use Rattle.workers.proofs.Hand.is_replied.Lts as lts
 
--- src/lib.rt:64:13
 returns : tie.Need-returns
 returns c = search replied-full
 
--- src/lib.rt:60:5
 returns-2 : tie.Need-returns-2
 returns-2 c = search replied-empty
 

@@ -1,3 +1,4 @@
+-- `Hands::any_holds` meets its contract.
 use mathlib.Core.Bool.{true, false}
 use Prim.Native.Nat.{_-_}
 use borrow.Author.Needs.{needs}
@@ -18,39 +19,30 @@ Inv-loop n self i₀ i = Seeking viewHand (M.inHand n) (λ h. true) false 4 4 (s
 abbrev μ-loop : tie.MeasureT-loop
 μ-loop n self i₀ i = 4 - i
 
--- src/lib.rt:230:9
 loop-holds : tie.Need-loop-holds Inv-loop μ-loop
 loop-holds c = search (any-start, length-mapped)
 
--- src/lib.rt:231:21
 mul-h : tie.Need-mul-h Inv-loop μ-loop
 mul-h c = search needs
 
--- src/lib.rt:231:21
 element-copy-out-h : tie.Need-element-copy-out-h Inv-loop μ-loop
 element-copy-out-h c = search needs
 
--- src/lib.rt:232:16
 holds-requires : tie.Need-holds-requires Inv-loop μ-loop
 holds-requires c κs = search needs
 
--- src/lib.rt:233:17
 returns : tie.Need-returns Inv-loop μ-loop
 returns c = search seek-hit
 
--- src/lib.rt:235:13
 add-i : tie.Need-add-i Inv-loop μ-loop
 add-i c = search needs
 
--- src/lib.rt:230:9
 loop-less : tie.Need-loop-less Inv-loop μ-loop
 loop-less c = search needs
 
--- src/lib.rt:230:9
 loop-again : tie.Need-loop-again Inv-loop μ-loop
 loop-again c = search seek-next
 
--- src/lib.rt:226:5
 returns-2 : tie.Need-returns-2 Inv-loop μ-loop
 returns-2 c = search seek-past
 

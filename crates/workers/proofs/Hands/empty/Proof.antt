@@ -1,3 +1,4 @@
+-- `Hands::empty` meets its contract.
 use Rattle.workers.proofs.HandLaws.{hands-empty, hands-form}
 use borrow.Author.Needs.{needs}
 use Rattle.workers.proofs.Hands.empty.Statement.{statement}
@@ -6,11 +7,9 @@ use Rattle.workers.proofs.Hands.empty.Reads as reads
 use Rattle.workers.proofs.Hands.empty.Lts as lts
 use Rattle.workers.proofs.Hand.empty.Reads as empty-reads
 
--- src/lib.rt:194:13
 empty-requires : tie.Need-empty-requires
 empty-requires c κs = search needs
 
--- src/lib.rt:190:5
 returns : tie.Need-returns
 returns c = (hands-empty _ (c .empty .ensures .0), hands-form _ (c .empty .ensures .1))
 

@@ -1,3 +1,4 @@
+-- `Hands::hand` meets its contract.
 use Rattle.lists.proofs.Loops.{length-mapped}
 use Rattle.workers.proofs.HandLaws.{hand-past, hand-at, hand-form}
 use borrow.Author.Needs.{needs}
@@ -7,23 +8,18 @@ use Rattle.workers.proofs.Hands.hand.Reads as reads
 use Rattle.workers.proofs.Hands.hand.Lts as lts
 use Rattle.workers.proofs.Hand.empty.Reads as empty-reads
 
--- src/lib.rt:206:13
 empty-requires : tie.Need-empty-requires
 empty-requires c κs = search needs
 
--- src/lib.rt:206:13
 returns : tie.Need-returns
 returns c = (search (hand-past, length-mapped, needs), λ f. c .empty .ensures .1)
 
--- src/lib.rt:208:9
 mul-result : tie.Need-mul-result
 mul-result c = search needs
 
--- src/lib.rt:208:9
 element-copy-out-result : tie.Need-element-copy-out-result
 element-copy-out-result c = search needs
 
--- src/lib.rt:200:5
 returns-2 : tie.Need-returns-2
 returns-2 c = (search (hand-at, length-mapped, needs), search (hand-form, length-mapped, needs))
 

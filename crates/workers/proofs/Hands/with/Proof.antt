@@ -1,3 +1,4 @@
+-- `Hands::with` meets its contract.
 use native.Mathlib.Omega.{arith}
 use Rattle.lists.proofs.Loops.{length-mapped}
 use Rattle.workers.proofs.HandLaws.{hands-with, with-form}
@@ -7,19 +8,15 @@ use Rattle.workers.proofs.Hands.with.Tie as tie
 use Rattle.workers.proofs.Hands.with.Reads as reads
 use Rattle.workers.proofs.Hands.with.Lts as lts
 
--- src/lib.rt:218:13
 returns : tie.Need-returns
 returns c = (λ h. absurd (omega arith), λ f g. f)
 
--- src/lib.rt:221:9
 mul-h : tie.Need-mul-h
 mul-h c = search needs
 
--- src/lib.rt:221:9
 element-set-from-h : tie.Need-element-set-from-h
 element-set-from-h c = search needs
 
--- src/lib.rt:212:5
 returns-2 : tie.Need-returns-2
 returns-2 c = (search (hands-with, length-mapped, needs), search (with-form, length-mapped, needs))
 

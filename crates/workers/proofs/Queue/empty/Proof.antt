@@ -1,3 +1,4 @@
+-- `Queue::empty` meets its contract.
 use Rattle.workers.specs.Form.{queueForm}
 use Rattle.workers.specs.View.{viewQueue}
 use mathlib.Core.Path.{refl}
@@ -6,7 +7,6 @@ use Rattle.workers.proofs.Queue.empty.Tie as tie
 use Rattle.workers.proofs.Queue.empty.Reads as reads
 use Rattle.workers.proofs.Queue.empty.Lts as lts
 
--- src/lib.rt:103:5
 returns : tie.Need-returns
 unfolding viewQueue queueForm
 returns c = (refl, refl)

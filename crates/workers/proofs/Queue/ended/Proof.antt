@@ -1,3 +1,4 @@
+-- `Queue::ended` meets its contract.
 use Rattle.workers.proofs.QueueLaws.{end-own, end-other}
 use borrow.Author.Needs.{needs}
 use Rattle.workers.proofs.Queue.ended.Statement.{statement}
@@ -7,19 +8,15 @@ use Rattle.workers.proofs.Queue.ended.Lts as lts
 use Rattle.workers.proofs.Queue.empty.Reads as empty-reads
 use Rattle.workers.proofs.Queue.is_owned_by.Reads as is-owned-by-reads
 
--- src/lib.rt:161:12
 is-owned-by-requires : tie.Need-is-owned-by-requires
 is-owned-by-requires c κs = search needs
 
--- src/lib.rt:162:13
 empty-requires : tie.Need-empty-requires
 empty-requires c κs = search needs
 
--- src/lib.rt:162:13
 returns : tie.Need-returns
 returns c = (search end-own, λ f. c .empty .ensures .1)
 
--- src/lib.rt:157:5
 returns-2 : tie.Need-returns-2
 returns-2 c = (search end-other, λ f. f)
 

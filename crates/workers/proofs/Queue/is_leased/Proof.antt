@@ -1,10 +1,10 @@
+-- `Queue::is_leased` meets its contract.
 use Rattle.workers.proofs.QueueLaws.{leased-is}
 use Rattle.workers.proofs.Queue.is_leased.Statement.{statement}
 use Rattle.workers.proofs.Queue.is_leased.Tie as tie
 use Rattle.workers.proofs.Queue.is_leased.Reads as reads
 use Rattle.workers.proofs.Queue.is_leased.Lts as lts
 
--- src/lib.rt:127:5
 returns : tie.Need-returns
 returns c = leased-is _
 

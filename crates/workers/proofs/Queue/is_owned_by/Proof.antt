@@ -1,14 +1,13 @@
+-- `Queue::is_owned_by` meets its contract.
 use Rattle.workers.proofs.QueueLaws.{owned-yes, owned-no}
 use Rattle.workers.proofs.Queue.is_owned_by.Statement.{statement}
 use Rattle.workers.proofs.Queue.is_owned_by.Tie as tie
 use Rattle.workers.proofs.Queue.is_owned_by.Reads as reads
 use Rattle.workers.proofs.Queue.is_owned_by.Lts as lts
 
--- src/lib.rt:151:13
 returns : tie.Need-returns
 returns c = search owned-yes
 
--- src/lib.rt:147:5
 returns-2 : tie.Need-returns-2
 returns-2 c = search owned-no
 

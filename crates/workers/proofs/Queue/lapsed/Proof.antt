@@ -1,3 +1,4 @@
+-- `Queue::lapsed` meets its contract.
 use Rattle.workers.proofs.QueueLaws.{lapse-young, lapse-live, lapse-over}
 use borrow.Author.Needs.{needs}
 use Rattle.workers.proofs.Queue.lapsed.Statement.{statement}
@@ -6,19 +7,15 @@ use Rattle.workers.proofs.Queue.lapsed.Reads as reads
 use Rattle.workers.proofs.Queue.lapsed.Lts as lts
 use Rattle.workers.proofs.Queue.empty.Reads as empty-reads
 
--- src/lib.rt:139:13
 returns : tie.Need-returns
 returns c = (search lapse-young, λ f. f)
 
--- src/lib.rt:142:13
 empty-requires : tie.Need-empty-requires
 empty-requires c κs = search needs
 
--- src/lib.rt:142:13
 returns-2 : tie.Need-returns-2
 returns-2 c = (search (lapse-over, needs), λ f. c .empty .ensures .1)
 
--- src/lib.rt:134:5
 returns-3 : tie.Need-returns-3
 returns-3 c = (search (lapse-live, needs), λ f. f)
 

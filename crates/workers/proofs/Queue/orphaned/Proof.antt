@@ -1,3 +1,4 @@
+-- `Queue::orphaned` meets its contract.
 use Rattle.workers.proofs.QueueLaws.{cut-own, cut-other, cut-form}
 use borrow.Author.Needs.{needs}
 use Rattle.workers.proofs.Queue.orphaned.Statement.{statement}
@@ -6,15 +7,12 @@ use Rattle.workers.proofs.Queue.orphaned.Reads as reads
 use Rattle.workers.proofs.Queue.orphaned.Lts as lts
 use Rattle.workers.proofs.Queue.is_owned_by.Reads as is-owned-by-reads
 
--- src/lib.rt:172:12
 is-owned-by-requires : tie.Need-is-owned-by-requires
 is-owned-by-requires c κs = search needs
 
--- src/lib.rt:176:13
 returns : tie.Need-returns
 returns c = (search cut-own, cut-form _)
 
--- src/lib.rt:168:5
 returns-2 : tie.Need-returns-2
 returns-2 c = (search cut-other, λ f. f)
 

@@ -1,3 +1,4 @@
+-- `Queue::taken` meets its contract.
 use Rattle.workers.specs.Form.{queueForm}
 use Rattle.workers.specs.View.{viewQueue, ownerOf}
 use mathlib.Core.Path.{refl}
@@ -6,7 +7,6 @@ use Rattle.workers.proofs.Queue.taken.Tie as tie
 use Rattle.workers.proofs.Queue.taken.Reads as reads
 use Rattle.workers.proofs.Queue.taken.Lts as lts
 
--- src/lib.rt:115:5
 returns : tie.Need-returns
 unfolding viewQueue queueForm ownerOf
 returns c = (refl, refl)
