@@ -12,6 +12,7 @@ use Rattle.rules.specs.Lists.{any, all, override}
 use Rattle.rules.specs.Limits.{keyCount}
 use Rattle.rules.specs.Values as S
 use Rattle.rules.proofs.Laws.{byCase, both}
+use Rattle.docset.specs.Sets.{docs}
 use Rattle.lists.specs.Table.{counted}
 use Rattle.lists.proofs.Views.{Seeking, counted-next, counted-gone, counted-at, counted-over}
 use Rattle.lists.proofs.Forms.{form-empty, array-empty, array-at, array-set}
@@ -30,6 +31,10 @@ module _ (a b : Place) where
   pub place-elsewhere : (a .document ≡ b .document → ⊥) → false ≡ S.samePlace (viewPlace a) (viewPlace b)
   unfolding viewPlace
   place-elsewhere e = rw (ne-eqb (a .document) (b .document) e)
+
+pub place-in : (q : Place) (set : ℕ) {b : Bool} → b ≡ docs set (q .document) → b ≡ docs set (viewPlace q .document)
+unfolding viewPlace
+place-in q set e = e
 
 -- ── one key ──
 pub key-form-empty : (q : Place) → isBlank q ≡ true → keyForm (record { count = 0; places = q ∷ q ∷ q ∷ q ∷ [] }) ≡ true

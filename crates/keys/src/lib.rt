@@ -7,6 +7,8 @@ ghost use lib.ListN.{length, getD, drop};
 ghost use Rattle.rules.specs.Limits.{placeLimit, keyCount};
 ghost use Rattle.rules.specs.Lists.{any, isEmpty, pushed, override};
 ghost use Rattle.rules.specs.Values.{samePlace, twice};
+ghost use Rattle.rules.specs.Effects.{inDocuments};
+ghost use Rattle.docset.specs.Sets.{docs};
 ghost use Rattle.keys.specs.View.{viewPlace, noPlace, viewKey, viewKeys};
 ghost use Rattle.keys.specs.Form.{isBlank, keyForm, keysForm};
 
@@ -113,6 +115,25 @@ impl Key {
             }
             let p = self.places[i];
             if q.is(p) {
+                return true;
+            }
+            i += 1;
+        }
+        false
+    }
+
+    // A place of it lies in a document of the set.
+    pub fn in_documents(self, set: u64) -> bool
+        ensures { λ r. ⌜ r ≡ inDocuments (docs set) (viewKey self) ⌝ }
+    {
+        let count = self.count as usize;
+        let mut i: usize = 0;
+        while i < Self::LIMIT {
+            if count <= i {
+                return false;
+            }
+            let q = self.places[i];
+            if docset::has(set, q.document) {
                 return true;
             }
             i += 1;

@@ -1,0 +1,21 @@
+-- `Cache::empty` meets its contract.
+use mathlib.Core.Path.{refl}
+use Rattle.lists.specs.Table.{counted}
+use Rattle.cache.specs.View.{viewCache}
+use Rattle.cache.proofs.CacheLaws.{cache-empty}
+use borrow.Author.Needs.{needs}
+use Rattle.cache.proofs.Cache.empty.Statement.{statement}
+use Rattle.cache.proofs.Cache.empty.Tie as tie
+use Rattle.cache.proofs.Cache.empty.Reads as reads
+use Rattle.cache.proofs.Cache.empty.Lts as lts
+use Rattle.cache.proofs.Cached.empty.Reads as empty-reads
+
+empty-requires : tie.Need-empty-requires
+empty-requires c κs = search needs
+
+returns : tie.Need-returns
+unfolding viewCache counted
+returns c = (refl, cache-empty _ (c .empty .ensures .1))
+
+pub empty-spec : {M : Type 1} → statement M
+empty-spec = tie.close (tie.spec empty-requires returns)

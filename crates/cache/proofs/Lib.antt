@@ -1,0 +1,3 @@
+-- Laws of the cached keys.
+pub mod CacheLaws
+pub mod Unique

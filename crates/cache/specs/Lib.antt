@@ -1,0 +1,3 @@
+-- The cached keys as the rules see them.
+pub mod View
+pub mod Form

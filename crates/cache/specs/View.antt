@@ -1,0 +1,24 @@
+-- The cached keys as the rules see them, for every value of the structs.
+use mathlib.Core.List.{List, []}
+use Rattle.rules.specs.Limits.{placeLimit}
+use Rattle.rules.specs.Lists.{pushed}
+use Rattle.rules.specs.Values as S
+use Rattle.rules.specs.Tables as M
+use Rattle.field.specs.View.{viewField}
+use Rattle.lists.specs.Table.{counted}
+use Rattle.cache.specs.declared.Cached.{Cached}
+use Rattle.cache.specs.declared.Cache.{Cache}
+
+unfoldable pub viewCached : Cached → M.Cached
+viewCached c = record { key = c .key; fields = counted viewField (c .count) (c .fields) }
+
+-- what an entry that is not in use shows
+abbrev pub noCached : M.Cached
+noCached = record { key = 0; fields = [] }
+
+-- a cached key with one more field
+unfoldable pub withField : S.Field → M.Cached → M.Cached
+withField f c = record { key = c .key; fields = pushed placeLimit (c .fields) f }
+
+unfoldable pub viewCache : Cache → List M.Cached
+viewCache t = counted viewCached (t .count) (t .entries)
