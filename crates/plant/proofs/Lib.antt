@@ -1,0 +1,3 @@
+-- Laws of the plant.
+pub mod PlantLaws
+pub mod Unique

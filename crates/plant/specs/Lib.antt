@@ -1,0 +1,2 @@
+-- The plant as the rules see it.
+pub mod View
