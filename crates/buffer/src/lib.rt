@@ -70,7 +70,7 @@ impl Batch {
 
 pub struct Buffer {
     pub count: u8,
-    pub batches: [Batch; 32],
+    pub batches: [Batch; Buffer::LIMIT],
 }
 
 impl Buffer {

@@ -8,25 +8,30 @@ use mathlib.Core.List.{List, [], _∷_, _++_, map}
 use lib.ListN.{length, getD, set, take, drop, replicate, length-map}
 use lib.Dec.{eqb}
 use borrow.Author.Tests.{eq-eqb}
-use Rattle.rules.specs.Lists.{any, dropAt}
+use Rattle.rules.specs.Limits.{placeLimit}
+use Rattle.rules.specs.Lists.{any, dropAt, pushed}
 use Rattle.rules.specs.Values as S
+use Rattle.rules.specs.Changes as C
 use Rattle.rules.specs.Tables as M
 use Rattle.rules.specs.Reading as D
 use Rattle.rules.specs.Effects.{inDocuments, stays}
 use Rattle.rules.proofs.Laws.{both}
 use Rattle.docset.specs.Sets.{docs}
-use Rattle.keys.specs.View.{viewPlace, viewKey, viewKeys}
+use Rattle.keys.specs.View.{noPlace, viewPlace, viewKey, viewKeys}
 use Rattle.keys.specs.declared.Place.{Place}
 use Rattle.keys.specs.declared.Key.{Key}
 use Rattle.keys.specs.declared.Keys.{Keys}
 use Rattle.field.specs.View.{viewField, fieldForm}
 use Rattle.field.specs.declared.Field.{Field}
 use Rattle.field.proofs.ViewLaws.{form-of}
+use Rattle.changes.specs.View.{viewChanges}
+use Rattle.changes.specs.declared.Changes.{Changes}
+use Rattle.lists.specs.Find.{mapFrom}
 use Rattle.lists.specs.Table.{counted}
 use Rattle.lists.proofs.Loops.{Removing, remove-end, take-removed}
 use Rattle.lists.proofs.Views.{counted-next, counted-gone, counted-length, push-room, push-full}
 use Rattle.lists.proofs.Forms.{form-parts, form-empty, form-push, form-remove, used-at}
-use Rattle.cache.specs.View.{withField, viewCached, viewCache}
+use Rattle.cache.specs.View.{withField, viewCached, viewCache, afterChanges}
 use Rattle.cache.specs.Form.{isBlankField, cachedForm, isBlankCached, cacheForm}
 use Rattle.cache.specs.declared.Cached.{Cached}
 use Rattle.cache.specs.declared.Cache.{Cache}
@@ -40,6 +45,29 @@ module _ (f : Field) (e : viewField f ≡ S.absent) (h : fieldForm f ≡ true) w
   pub cached-empty : isBlankCached (record { key = 0; count = 0; fields = f ∷ f ∷ f ∷ f ∷ [] }) ≡ true
   unfolding isBlankCached cachedForm
   cached-empty = form-empty 4 fieldForm isBlankField f (blank-field f e h)
+
+  pub of-form : (k : ℕ) → cachedForm (record { key = k; count = 0; fields = f ∷ f ∷ f ∷ f ∷ [] }) ≡ true
+  unfolding cachedForm
+  of-form k = form-empty 4 fieldForm isBlankField f (blank-field f e h)
+
+-- ── after changes ──
+pub after-is : (t c : Cached) (cs : List C.Update) (qs : List S.Place) → viewCached t .key ≡ c .key → viewCached t .fields ≡ mapFrom (λ i f. C.run cs (getD qs i noPlace) f) 0 (viewCached c .fields) → viewCached t ≡ afterChanges cs qs (viewCached c)
+unfolding afterChanges viewCached
+after-is t c cs qs k e = λ i. record { key = k i; fields = e i }
+
+module _ (t r : Cached) (f : S.Field) (a : viewCached r ≡ withField f (viewCached t)) where
+  pub pushed-key : {k : ℕ} → viewCached t .key ≡ k → viewCached r .key ≡ k
+  unfolding withField
+  pushed-key e = ap (λ (c : M.Cached). c .key) a ∙ e
+
+pub pushed-fields : (t r : Cached) (f old : Field) (q : Place) (key : Key) (cs : Changes) (i : ℕ) → viewCached r ≡ withField (viewField f) (viewCached t) → viewField f ≡ C.run (viewChanges cs) (viewPlace q) (viewField old) → viewPlace q ≡ getD (viewKey key) i noPlace
+    → viewCached r .fields ≡ pushed placeLimit (viewCached t .fields) (C.run (viewChanges cs) (getD (viewKey key) i noPlace) (viewField old))
+unfolding withField
+pushed-fields t r f old q key cs i a b e = ap (λ (c : M.Cached). c .fields) a ∙ ap (pushed placeLimit (viewCached t .fields)) (b ∙ ap (λ (p : S.Place). C.run (viewChanges cs) p (viewField old)) e)
+
+pub dated-is : (c : Cached) (keys : Keys) (k : Key) (cs : List C.Update) {r : M.Cached} → viewKey k ≡ viewKeys keys (c .key) → r ≡ afterChanges cs (viewKey k) (viewCached c) → r ≡ afterChanges cs (viewKeys keys (viewCached c .key)) (viewCached c)
+unfolding viewCached
+dated-is c keys k cs e h = h ∙ ap (λ (qs : List S.Place). afterChanges cs qs (viewCached c)) e
 
 pub key-is : (c : Cached) (k : ℕ) → eqb k (c .key) ≡ eqb k (viewCached c .key)
 unfolding viewCached

@@ -1,7 +1,7 @@
 // The cached keys, each with the fields that its places showed.
 ghost use mathlib.Core.Path.{_≡_};
 ghost use mathlib.Core.Bool.{true, cond};
-ghost use mathlib.Core.List.{[]};
+ghost use mathlib.Core.List.{[], map};
 ghost use lib.Dec.{eqb};
 ghost use lib.ListN.{length};
 ghost use Rattle.rules.specs.Limits.{cacheLimit};
@@ -12,8 +12,10 @@ ghost use Rattle.rules.specs.Effects.{stays};
 ghost use Rattle.docset.specs.Sets.{docs};
 ghost use Rattle.keys.specs.View.{viewPlace, viewKey, viewKeys};
 ghost use Rattle.field.specs.View.{viewField, fieldForm};
-ghost use Rattle.cache.specs.View.{noCached, withField, viewCached, viewCache};
+ghost use Rattle.changes.specs.View.{viewChanges};
+ghost use Rattle.cache.specs.View.{noCached, withField, afterChanges, viewCached, viewCache};
 ghost use Rattle.cache.specs.Form.{cachedForm, isBlankCached, cacheForm};
+use changes::Changes;
 use field::Field;
 use keys::Key;
 use keys::Keys;
@@ -23,7 +25,7 @@ use keys::Place;
 pub struct Cached {
     pub key: u8,
     pub count: u8,
-    pub fields: [Field; 4],
+    pub fields: [Field; Key::LIMIT],
 }
 
 impl Cached {
@@ -36,6 +38,19 @@ impl Cached {
         let f = Field::empty();
         Self {
             key: 0,
+            count: 0,
+            fields: [f; Self::LIMIT],
+        }
+    }
+
+    // The key of a number, without fields yet.
+    pub fn of(key: u8) -> Self
+        ensures shows { λ r. ⌜ viewCached r ≡ record { key = key; fields = [] } ⌝ }
+        ensures form { λ r. ⌜ cachedForm r ≡ true ⌝ }
+    {
+        let f = Field::empty();
+        Self {
+            key,
             count: 0,
             fields: [f; Self::LIMIT],
         }
@@ -94,12 +109,42 @@ impl Cached {
         }
         Field::empty()
     }
+
+    // After changes, where the key's places are those of `key`.
+    pub fn after(self, key: Key, cs: Changes) -> Self
+        ensures shows { λ r. ⌜ viewCached r ≡ afterChanges (viewChanges cs) (viewKey key) (viewCached self) ⌝ }
+        ensures form { λ r. ⌜ (cachedForm self ≡ true → cachedForm r ≡ true) ⌝ }
+    {
+        let count = self.count as usize;
+        let mut t = Cached::of(self.key);
+        let mut i: usize = 0;
+        while i < Self::LIMIT {
+            if count <= i {
+                return t;
+            }
+            let q = key.place(i as u8);
+            let old = self.fields[i];
+            let f = cs.run(q, old);
+            t = t.push(f);
+            i += 1;
+        }
+        t
+    }
+
+    // After changes, with the places that the table of keys gives it.
+    pub fn up_to_date(self, keys: Keys, cs: Changes) -> Self
+        ensures shows { λ r. ⌜ viewCached r ≡ afterChanges (viewChanges cs) (viewKeys keys (viewCached self .key)) (viewCached self) ⌝ }
+        ensures form { λ r. ⌜ (cachedForm self ≡ true → cachedForm r ≡ true) ⌝ }
+    {
+        let key = keys.key(self.key);
+        self.after(key, cs)
+    }
 }
 
 // The cached keys, in the order in which they came.
 pub struct Cache {
     pub count: u8,
-    pub entries: [Cached; 16],
+    pub entries: [Cached; Cache::LIMIT],
 }
 
 impl Cache {
@@ -248,6 +293,26 @@ impl Cache {
         }
         t.entries[j] = none;
         t.count = n - 1;
+        t
+    }
+
+    // All brought up to date with changes.
+    pub fn up_to_date(self, keys: Keys, cs: Changes) -> Self
+        ensures shows { λ r. ⌜ viewCache r ≡ map (λ c. afterChanges (viewChanges cs) (viewKeys keys (c .key)) c) (viewCache self) ⌝ }
+        ensures form { λ r. ⌜ (cacheForm self ≡ true → cacheForm r ≡ true) ⌝ }
+    {
+        let count = self.count as usize;
+        let mut t = Cache::empty();
+        let mut i: usize = 0;
+        while i < Self::LIMIT {
+            if count <= i {
+                return t;
+            }
+            let old = self.entries[i];
+            let c = old.up_to_date(keys, cs);
+            t = t.push(c);
+            i += 1;
+        }
         t
     }
 }

@@ -80,7 +80,7 @@ impl Update {
 // The changes of a session, oldest first.
 pub struct Changes {
     pub count: u8,
-    pub items: [Update; 8],
+    pub items: [Update; Changes::LIMIT],
 }
 
 impl Changes {

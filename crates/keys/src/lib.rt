@@ -42,7 +42,7 @@ impl Place {
 // The places that a key shows; none if the key is undefined.
 pub struct Key {
     pub count: u8,
-    pub places: [Place; 4],
+    pub places: [Place; Key::LIMIT],
 }
 
 impl Key {
@@ -185,7 +185,7 @@ impl Key {
 
 // The 32 keys.
 pub struct Keys {
-    pub all: [Key; 32],
+    pub all: [Key; Keys::LIMIT],
 }
 
 impl Keys {

@@ -12,7 +12,7 @@ use lib.ListN.{length, getD, take, drop, set, drop-of-length-le, length-take, le
 use lib.Seq.{take-suc-set, getD-take}
 use borrow.Author.Tests.{lt-ltb, le-ltb}
 use Rattle.rules.specs.Lists.{from, keep, pushed, isEmpty}
-use Rattle.lists.specs.Find.{firstAt, fold}
+use Rattle.lists.specs.Find.{firstAt, fold, mapFrom}
 use Rattle.lists.specs.Table.{counted}
 use Rattle.lists.proofs.Loops.{drop-take-next, first-hit, first-miss, filled, fill-step, fill-end, getD-within}
 
@@ -185,6 +185,44 @@ module _ {A : Type 0} (p t : Bool) (a : t ≡ p) (x y : A) where
 
   pub unless-kept : {r : A} → t ≡ false → r ≡ x → r ≡ cond (not p) x y
   unless-kept e q = q ∙ rw (← a, e)
+
+-- ---- a loop that puts each entry, made anew by its place, into a new table that is seen as acc
+pub record Mapping {A B C : Type 0} (view : A → B) (g : ℕ → B → C) (n k : ℕ) (xs : List A) (whole acc : List C) (i : ℕ) : Type 0 where
+  pub long : length xs ≡ k
+  pub at : i ≤ k
+  pub few : length acc ≡ i
+  pub rest : whole ≡ acc ++ mapFrom g i (drop i (counted view n xs))
+
+pub map-start : {A B C : Type 0} {view : A → B} {g : ℕ → B → C} {n k : ℕ} {xs : List A} {whole acc : List C} → length xs ≡ k → acc ≡ [] → whole ≡ mapFrom g 0 (counted view n xs) → Mapping view g n k xs whole acc 0
+map-start l e w = record { long = l; at = omega arith; few = rw e refl; rest = w ∙ rw e refl }
+
+module _ {A B C : Type 0} {view : A → B} {g : ℕ → B → C} {n k : ℕ} {xs : List A} {whole acc : List C} {i : ℕ} (inv : Mapping view g n k xs whole acc i) where
+  pub map-next : (d : A) {r : List C} → i < k → i < n → r ≡ pushed k acc (g i (view (getD xs i d))) → Mapping view g n k xs whole r (i + 1)
+  unfolding pushed mapFrom
+  map-next d {r} h m e =
+      let l : i < length xs = omega (arith, inv .long) in
+      let u : length acc < k = omega (arith, inv .few) in
+      let s : ltb (length acc) k ≡ true = lt-ltb _ _ u in
+      let q : r ≡ acc ++ (g i (view (getD xs i d)) ∷ []) = e ∙ simp s in
+      record {
+        long = inv .long;
+        at = omega arith;
+        few = rw q (simp length-append (omega (arith, inv .few)));
+        rest = inv .rest ∙ simp (counted-next view n xs d i m l, q, append-assoc);
+      }
+
+  pub map-end : n ≤ i → acc ≡ whole
+  unfolding mapFrom
+  map-end h = sym (inv .rest ∙ simp (counted-gone view n xs i k (inv .long) (inl h), append-nil))
+
+  pub map-past : k ≤ i → acc ≡ whole
+  unfolding mapFrom
+  map-past h = sym (inv .rest ∙ simp (counted-gone view n xs i k (inv .long) (inr h), append-nil))
+
+pub map-is : {A B : Type 0} (g : A → B) (i : ℕ) (l : List A) → map g l ≡ mapFrom (λ j. g) i l
+unfolding mapFrom
+map-is g i [] = refl
+map-is g i (x ∷ l) = ap (λ r. g x ∷ r) (map-is g (i + 1) l)
 
 -- ---- a loop that makes each entry of a table anew: g is what happens to an entry's view
 pub record Remaking {A B : Type 0} (view : A → B) (g : B → B) (xs : List A) (k : ℕ) (vs : List A) (j : ℕ) : Type 0 where

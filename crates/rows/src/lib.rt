@@ -18,7 +18,7 @@ fn same(a: u32, b: u32) -> bool
 // The rows that a sweep removes.
 pub struct Picks {
     pub count: u8,
-    pub numbers: [u32; 16],
+    pub numbers: [u32; Picks::LIMIT],
 }
 
 impl Picks {
@@ -71,7 +71,7 @@ impl Picks {
 // The rows in the store: the numbers of applied sessions, in the order in which they came to stand.
 pub struct Rows {
     pub count: u8,
-    pub numbers: [u32; 48],
+    pub numbers: [u32; Rows::LIMIT],
 }
 
 impl Rows {

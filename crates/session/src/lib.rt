@@ -35,7 +35,7 @@ pub struct Session {
     pub doomed: bool,
     pub shared: u64,
     pub exclusive: u64,
-    pub granted: [u64; 64],
+    pub granted: [u64; Session::DOCUMENTS],
     pub changes: Changes,
 }
 

@@ -24,7 +24,7 @@ use session::Session;
 
 pub struct Sessions {
     pub count: u8,
-    pub slots: [Session; 8],
+    pub slots: [Session; Sessions::LIMIT],
 }
 
 impl Sessions {

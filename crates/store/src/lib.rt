@@ -15,7 +15,7 @@ use keys::Place;
 
 // Field f of document d stands at 4 d + f.
 pub struct Store {
-    pub fields: [Field; 256],
+    pub fields: [Field; Store::LIMIT],
 }
 
 // Where a place's field stands, past the end if there is no such place.

@@ -181,7 +181,7 @@ impl Queue {
 
 // The hands of the four workers.
 pub struct Hands {
-    pub all: [Hand; 4],
+    pub all: [Hand; Hands::LIMIT],
 }
 
 impl Hands {
