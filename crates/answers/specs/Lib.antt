@@ -1,0 +1,2 @@
+-- Answers as the rules see them.
+pub mod View

@@ -1,0 +1,2 @@
+-- Laws of a caller's numbers.
+pub mod Numbers
