@@ -1,0 +1,2 @@
+-- Laws of take.
+mod Laws

@@ -1,0 +1,51 @@
+-- `take::after` meets its contract.
+use borrow.Author.Needs.{needs}
+use Rattle.carrier.proofs.take.after.Statement.{statement}
+use Rattle.carrier.proofs.take.after.Tie as tie
+use Rattle.answers.proofs.Answer.is_refused.Reads as is-refused-reads
+use Rattle.arguments.proofs.index.Reads as index-reads
+use Rattle.buffer.proofs.Buffer.oldest.Reads as oldest-reads
+use Rattle.workers.proofs.Hand.holding.Reads as holding-reads
+use Rattle.workers.proofs.Hands.with.Reads as with-reads
+use Rattle.workers.proofs.Queue.taken.Reads as taken-reads
+
+is-refused-requires : tie.Need-is-refused-requires
+is-refused-requires c κs = search needs
+
+returns : tie.Need-returns
+returns c = ?
+
+cast-index : tie.Need-cast-index
+cast-index c = search needs
+
+index-requires : tie.Need-index-requires
+index-requires c κs = search needs
+
+oldest-requires : tie.Need-oldest-requires
+oldest-requires c κs = search needs
+
+holding-requires : tie.Need-holding-requires
+holding-requires c κs = search needs
+
+with-requires : tie.Need-with-requires
+with-requires c κs = search needs
+
+taken-requires : tie.Need-taken-requires
+taken-requires c κs = search needs
+
+returns-2 : tie.Need-returns-2
+returns-2 c = ?
+
+pub after-spec : {M : Type 1} → statement M
+after-spec =
+    tie.close
+    (tie.spec
+    is-refused-requires
+    returns
+    cast-index
+    index-requires
+    oldest-requires
+    holding-requires
+    with-requires
+    taken-requires
+    returns-2)

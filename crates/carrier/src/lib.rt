@@ -1,0 +1,2 @@
+// The calls of the workers that carry buffered sessions to the store: what each answers, and the plant it leaves.
+pub mod take;

@@ -1,0 +1,41 @@
+-- What a call's conditions say of its answer, and its answer of the plant it leaves.
+use mathlib.Core.Path.{_≡_, refl, sym, _∙_, ap}
+use mathlib.Core.Bool.{true, false, true≢false}
+use mathlib.Core.Option.{Option, none, some}
+use mathlib.Core.List.{List}
+use lib.IntN.{ℤ}
+use Rattle.rules.specs.Refusals.{Refusal, first}
+use Rattle.rules.specs.Tables as M
+use Rattle.rules.specs.Calls.{Call, Pick, Answer, refused, fine}
+use Rattle.rules.specs.Conditions.{conditions}
+use Rattle.rules.specs.Step.{accepted, afterRefusal, settle, step}
+use Rattle.rules.proofs.Laws.{NoneMet, none-met}
+use Rattle.rules.proofs.Steps.{step-fine, refused-is}
+use Rattle.answers.specs.View.{isRefused}
+
+module _ (c : Call) (lent : List ℤ) (pick : Pick) (p : M.Plant) where
+  -- ── from the conditions ──
+  pub refuses : (r : Refusal) → first (conditions c lent p) ≡ some r → refused r ≡ step c lent pick p .answer
+  unfolding step
+  refuses r e = rw e refl
+
+  pub accepts : first (conditions c lent p) ≡ none → accepted c lent pick p .answer ≡ step c lent pick p .answer
+  unfolding step
+  accepts e = rw e refl
+
+  -- ── from the answer ──
+  pub none-held : (a : Answer) → a ≡ step c lent pick p .answer → isRefused a ≡ false → NoneMet (conditions c lent p)
+  unfolding step
+  none-held a e h = none-met (conditions c lent p) (go (first (conditions c lent p)) (ap isRefused (sym e) ∙ h))
+    where
+      go : (o : Option Refusal) → isRefused (settle o c lent pick p .answer) ≡ false → o ≡ none
+      go none i = refl
+      go (some r) i = absurd (true≢false i)
+
+  pub left-accepted : NoneMet (conditions c lent p) → accepted c lent pick p .plant ≡ step c lent pick p .plant
+  left-accepted m = ap (λ r. r .plant) (sym (step-fine c lent pick p m))
+
+  -- a refusal of a call in which no session can end
+  pub left-refused : (a : Answer) → a ≡ step c lent pick p .answer → isRefused a ≡ true → ((r : Refusal) → afterRefusal c r p ≡ p) → p ≡ step c lent pick p .plant
+  left-refused (refused r) e h s = sym (ap (λ x. x .plant) (refused-is c lent pick p r (sym e)) ∙ s r)
+  left-refused (fine ns) e h s = absurd (true≢false (sym h))

@@ -1,0 +1,2 @@
+-- What the functions of a call promise.
+pub mod Promise

@@ -1,0 +1,32 @@
+-- What the two functions of a call promise, for every plant that keeps the tables' rules: `answer` says what the call answers,
+-- and `after` which plant it leaves. Both are those of the rules' `step`.
+use mathlib.Core.Path.{_≡_}
+use mathlib.Core.Bool.{true}
+use mathlib.Core.List.{List}
+use lib.IntN.{ℤ}
+use lib.ListN.{take}
+use Rattle.rules.specs.Lists.{keep}
+use Rattle.rules.specs.Limits.{sweepLimit}
+use Rattle.rules.specs.Tables as M
+use Rattle.rules.specs.Calls.{Call, Pick, Result}
+use Rattle.rules.specs.Step.{step}
+use Rattle.plant.specs.View.{viewPlant, keptPlant}
+use Rattle.plant.specs.declared.Plant.{Plant}
+use Rattle.answers.specs.View.{viewAnswer}
+use Rattle.answers.specs.declared.Answer.{Answer}
+
+-- what the code chooses where the paper leaves it free: the oldest cached key gives way, and a sweep takes the first rows it may.
+-- `Allowed` holds of it (`proofs/Chosen`); the entry over all calls promises no more than that
+unfoldable pub chosen : M.Plant → Pick
+chosen p = record { gives = 0; swept = take sweepLimit (keep (M.removable p) (p .rows)) }
+
+-- the rules' result of a call
+abbrev pub result : Call → List ℤ → Plant → Result
+result c lent p = step c lent (chosen (viewPlant p)) (viewPlant p)
+
+abbrev pub Answers : Call → List ℤ → Plant → Answer → Type 0
+Answers c lent p a = keptPlant p ≡ true → viewAnswer a ≡ result c lent p .answer
+
+-- a is what the call answers
+abbrev pub Leaves : Call → Plant → Answer → Plant → Type 0
+Leaves c p a q = keptPlant p ≡ true → (lent : List ℤ) → viewAnswer a ≡ result c lent p .answer → viewPlant q ≡ result c lent p .plant
