@@ -26,7 +26,7 @@ use Rattle.changes.specs.declared.Update.{Update}
 use Rattle.changes.specs.declared.Changes.{Changes}
 use Rattle.changes.specs.View.{viewUpdate, viewChanges}
 use Rattle.session.specs.declared.Session.{Session}
-use Rattle.session.specs.View.{leases, ticks, viewSession, viewSlot, withSharedOne}
+use Rattle.session.specs.View.{leases, ticks, viewSession, viewSlot, within, withSharedOne}
 
 -- ── leases ──
 pub leases-none : (t : ℕ → ℕ) → leases (docs 0) (docs 0) t ≡ (λ d. M.free)
@@ -223,18 +223,23 @@ twice-shared now true false l = refl
 twice-shared now false true l = refl
 twice-shared now false false l = refl
 
-pub share-all : (now : ℕ) (qs : List S.Place) (s : M.Slot) → all S.inRange qs ≡ true → fold (sharing now) s qs ≡ M.remade (λ n. withShared now qs) s
-unfolding fold sharing withSharedOne
-share-all now [] s h = refl
-share-all now (q ∷ qs) s h =
-    let k = and-true (ltb (q .document) 64) (ltb (q .field) 4) (all-head S.inRange q qs h) in
-    share-all now qs (sharing now s q) (all-tail S.inRange q qs h)
-    ∙ rw (k .0)
-    (ap (λ (f : ℕ → M.Lease). record { number = s .number; session = M.withLeases f (s .session) })
-    (fun-ext (λ d. twice-shared now (eqb d (q .document)) (documentIn d qs) (s .session .lease d))))
+share-all : (now : ℕ) (qs : List S.Place) (s : M.Slot) → fold (sharing now) s qs ≡ M.remade (λ n. withShared now (within qs)) s
+unfolding fold sharing withSharedOne within
+share-all now [] s = refl
+share-all now (q ∷ qs) s =
+    share-all now qs (sharing now s q)
+    ∙ byCase (ltb (q .document) 64)
+    (λ t. rw t (ap (λ (f : ℕ → M.Lease). record { number = s .number; session = M.withLeases f (s .session) }) (fun-ext (λ d. twice-shared now (eqb d (q .document)) (documentIn d (within qs)) (s .session .lease d)))))
+    (λ t. rw t)
 
-pub share-key : (s r : Session) (now : ℕ) (key : Key) → viewSlot r ≡ fold (sharing now) (viewSlot s) (viewKey key) → all S.inRange (viewKey key) ≡ true → viewSlot r ≡ M.remade (λ n. withShared now (viewKey key)) (viewSlot s)
-share-key s r now key e h = e ∙ share-all now (viewKey key) (viewSlot s) h
+pub share-key : (s r : Session) (now : ℕ) (key : Key) → viewSlot r ≡ fold (sharing now) (viewSlot s) (viewKey key) → viewSlot r ≡ M.remade (λ n. withShared now (within (viewKey key))) (viewSlot s)
+share-key s r now key e = e ∙ share-all now (viewKey key) (viewSlot s)
+
+-- places in range are all of them within
+pub within-all : (qs : List S.Place) → all S.inRange qs ≡ true → within qs ≡ qs
+unfolding within
+within-all [] h = refl
+within-all (q ∷ qs) h = rw (and-true (ltb (q .document) 64) (ltb (q .field) 4) (all-head S.inRange q qs h) .0, within-all qs (all-tail S.inRange q qs h))
 
 module _ (s : Session) (n : ℕ) (f : M.Session → M.Session) where
   pub own-is : (r : Session) → s .number ≡ n → viewSlot r ≡ M.remade (λ m. f) (viewSlot s) → viewSlot r ≡ M.remade (onlyAt n f) (viewSlot s)
@@ -245,19 +250,25 @@ module _ (s : Session) (n : ℕ) (f : M.Session → M.Session) where
   unfolding onlyAt viewSlot
   own-other h = rw (ne-eqb (s .number) n h)
 
--- ── an exclusive lease ──
-module _ (s : Session) (d now : ℕ) {b : Bool} (e : b ≡ docs (s .exclusive) d) where
-  pub exclude-held : b ≡ true → viewSlot s ≡ M.remade (λ n. withExclusive now d) (viewSlot s)
-  unfolding viewSlot viewSession withExclusive
-  exclude-held t = rw (← exclusive-held (docs (s .shared)) (docs (s .exclusive)) (ticks (s .granted)) d now (sym e ∙ t)) refl
+-- ── an exclusive lease, if there is such a document ──
+module _ (s : Session) (d now : ℕ) where
+  abbrev Excluded : Session → Type 0
+  Excluded r = viewSlot r ≡ cond (ltb d documentCount) (M.remade (λ n. withExclusive now d) (viewSlot s)) (viewSlot s)
 
-  pub exclude-new : (sh ex : ℕ) → b ≡ false → d < documentCount → length (s .granted) ≡ documentCount → docs sh ≡ override (docs (s .shared)) d false → docs ex ≡ override (docs (s .exclusive)) d (ltb d documentCount)
-      → viewSlot (record { number = s .number; begun = s .begun; doomed = s .doomed; shared = sh; exclusive = ex; granted = set (s .granted) d now; changes = s .changes })
-      ≡ M.remade (λ n. withExclusive now d) (viewSlot s)
-  unfolding viewSlot viewSession withExclusive
-  exclude-new sh ex t h l p q =
-      let k : d < length (s .granted) = omega arith in
-      rw (p, q, lt-ltb d 64 h, ticks-set (s .granted) d now k, ← exclusive-new (docs (s .shared)) (docs (s .exclusive)) (ticks (s .granted)) d now (sym e ∙ t)) refl
+  pub exclude-past : documentCount ≤ d → Excluded s
+  exclude-past h = rw (le-ltb d 64 h)
+
+  module _ {b : Bool} (h : d < documentCount) (e : b ≡ docs (s .exclusive) d) where
+    pub exclude-held : b ≡ true → Excluded s
+    unfolding viewSlot viewSession withExclusive
+    exclude-held t = rw (lt-ltb d 64 h, ← exclusive-held (docs (s .shared)) (docs (s .exclusive)) (ticks (s .granted)) d now (sym e ∙ t)) refl
+
+    pub exclude-new : (sh ex : ℕ) → b ≡ false → length (s .granted) ≡ documentCount → docs sh ≡ override (docs (s .shared)) d false → docs ex ≡ override (docs (s .exclusive)) d (ltb d documentCount)
+        → Excluded (record { number = s .number; begun = s .begun; doomed = s .doomed; shared = sh; exclusive = ex; granted = set (s .granted) d now; changes = s .changes })
+    unfolding viewSlot viewSession withExclusive
+    exclude-new sh ex t l p q =
+        let k : d < length (s .granted) = omega arith in
+        rw (p, q, lt-ltb d 64 h, ticks-set (s .granted) d now k, ← exclusive-new (docs (s .shared)) (docs (s .exclusive)) (ticks (s .granted)) d now (sym e ∙ t)) refl
 
 -- ── a change last ──
 pub last-shows : (s : Session) (c : Update) (cs : Changes) → viewChanges cs ≡ pushed 8 (viewChanges (s .changes)) (viewUpdate c)
@@ -266,18 +277,24 @@ pub last-shows : (s : Session) (c : Update) (cs : Changes) → viewChanges cs �
 unfolding viewSlot viewSession withLast
 last-shows s c cs e = rw e
 
--- ── the effect of a change on one session ──
+-- ── the effect of a change on one session, if there is such a document ──
 module _ (s : Session) (n now : ℕ) (c : Update) where
-  pub grant-own : (x r : Session) → s .number ≡ n → viewSlot x ≡ M.remade (λ n. withExclusive now (c .place .document)) (viewSlot s) → viewSlot r ≡ M.remade (λ n. withLast (viewUpdate c)) (viewSlot x)
-      → viewSlot r ≡ M.remade (grant now n (viewUpdate c)) (viewSlot s)
-  unfolding grant viewSlot viewUpdate viewPlace
-  grant-own x r h e f = f ∙ ap (M.remade (λ n. withLast (viewUpdate c))) e ∙ rw (eq-eqb (s .number) n h)
+  abbrev Granted : Session → Type 0
+  Granted r = viewSlot r ≡ cond (ltb (c .place .document) documentCount) (M.remade (grant now n (viewUpdate c)) (viewSlot s)) (viewSlot s)
 
-  module _ (h : s .number ≡ n → ⊥) {b : Bool} (e : b ≡ M.isHeld (viewSession s .lease (c .place .document))) where
-    pub grant-holder : (r : Session) → b ≡ true → viewSlot r ≡ M.remade (λ n t. M.doomedSession) (viewSlot s) → viewSlot r ≡ M.remade (grant now n (viewUpdate c)) (viewSlot s)
-    unfolding grant viewSlot viewUpdate viewPlace
-    grant-holder r t f = f ∙ rw (ne-eqb (s .number) n h, ← e, t)
+  pub grant-past : documentCount ≤ c .place .document → Granted s
+  grant-past h = rw (le-ltb (c .place .document) 64 h)
 
-    pub grant-other : b ≡ false → viewSlot s ≡ M.remade (grant now n (viewUpdate c)) (viewSlot s)
+  module _ (l : c .place .document < documentCount) where
+    pub grant-own : (x r : Session) → s .number ≡ n → Excluded s (c .place .document) now x → viewSlot r ≡ M.remade (λ n. withLast (viewUpdate c)) (viewSlot x) → Granted r
     unfolding grant viewSlot viewUpdate viewPlace
-    grant-other t = rw (ne-eqb (s .number) n h, ← e, t)
+    grant-own x r h e f = f ∙ ap (M.remade (λ n. withLast (viewUpdate c))) e ∙ rw (lt-ltb (c .place .document) 64 l, eq-eqb (s .number) n h)
+
+    module _ (h : s .number ≡ n → ⊥) {b : Bool} (e : b ≡ M.isHeld (viewSession s .lease (c .place .document))) where
+      pub grant-holder : (r : Session) → b ≡ true → viewSlot r ≡ M.remade (λ n t. M.doomedSession) (viewSlot s) → Granted r
+      unfolding grant viewSlot viewUpdate viewPlace
+      grant-holder r t f = f ∙ rw (lt-ltb (c .place .document) 64 l, ne-eqb (s .number) n h, ← e, t)
+
+      pub grant-other : b ≡ false → Granted s
+      unfolding grant viewSlot viewUpdate viewPlace
+      grant-other t = rw (lt-ltb (c .place .document) 64 l, ne-eqb (s .number) n h, ← e, t)

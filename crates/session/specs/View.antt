@@ -5,6 +5,8 @@ use mathlib.Core.List.{List}
 use lib.ListN.{getD}
 use lib.Dec.{eqb, ltb}
 use Rattle.rules.specs.Limits.{documentCount}
+use Rattle.rules.specs.Lists.{keep}
+use Rattle.rules.specs.Values.{Place}
 use Rattle.rules.specs.Tables as M
 use Rattle.rules.specs.Effects.{orShared}
 use Rattle.docset.specs.Sets.{docs}
@@ -29,6 +31,10 @@ viewSession s =
 
 unfoldable pub viewSlot : Session → M.Slot
 viewSlot s = record { number = s .number; session = viewSession s }
+
+-- the places whose document is one of the documents
+unfoldable pub within : List Place → List Place
+within = keep (λ q. ltb (q .document) documentCount)
 
 -- one document shared, if there is such a document: a held lease keeps its grant
 unfoldable pub withSharedOne : ℕ → ℕ → M.Session → M.Session

@@ -1,11 +1,10 @@
 // A session with a slot: its leases as two sets of documents, the tick of each grant, and its changes.
 ghost use mathlib.Core.Path.{_≡_};
-ghost use mathlib.Core.Bool.{true, not, _&&_};
-ghost use Prim.Native.Nat.{ℕ, _<_, _+_};
-ghost use lib.Dec.{eqb, leb};
+ghost use mathlib.Core.Bool.{true, not, cond, _&&_};
+ghost use Prim.Native.Nat.{ℕ, _+_};
+ghost use lib.Dec.{eqb, leb, ltb};
 ghost use Rattle.rules.specs.Limits.{documentCount};
-ghost use Rattle.rules.specs.Lists.{any, all};
-ghost use Rattle.rules.specs.Values.{inRange};
+ghost use Rattle.rules.specs.Lists.{any};
 ghost use Rattle.rules.specs.Tables.{isHeld, isExclusive, hasLapsed, documents, doomedSession, remade};
 ghost use Rattle.rules.specs.Effects.{opened, withShared, withExclusive, withLast, grant, onlyAt, lapses, lapse, loses};
 ghost use Rattle.rules.specs.Step.{count, heldShared, heldExclusive};
@@ -13,7 +12,7 @@ ghost use Rattle.docset.specs.Sets.{docs};
 ghost use Rattle.keys.specs.View.{viewKey};
 ghost use Rattle.changes.specs.View.{viewUpdate};
 ghost use Rattle.changes.specs.Form.{isUsed};
-ghost use Rattle.session.specs.View.{viewSession, viewSlot, withSharedOne};
+ghost use Rattle.session.specs.View.{viewSession, viewSlot, within, withSharedOne};
 ghost use Rattle.session.specs.Form.{sessionForm, isBare, isUnused};
 use changes::Changes;
 use changes::Update;
@@ -175,7 +174,7 @@ impl Session {
 
     // Shared leases on the documents of a key.
     pub fn share(self, key: Key, now: u64) -> Self
-        ensures shows { λ r. ⌜ (all inRange (viewKey key) ≡ true → viewSlot r ≡ remade (λ n. withShared now (viewKey key)) (viewSlot self)) ⌝ }
+        ensures shows { λ r. ⌜ viewSlot r ≡ remade (λ n. withShared now (within (viewKey key))) (viewSlot self) ⌝ }
         ensures form { λ r. ⌜ (sessionForm self ≡ true → sessionForm r ≡ true) ⌝ }
     {
         let count = key.count as usize;
@@ -194,7 +193,7 @@ impl Session {
 
     // The same for session n; any other stays as it is.
     pub fn share_own(self, n: u32, key: Key, now: u64) -> Self
-        ensures shows { λ r. ⌜ (all inRange (viewKey key) ≡ true → viewSlot r ≡ remade (onlyAt n (withShared now (viewKey key))) (viewSlot self)) ⌝ }
+        ensures shows { λ r. ⌜ viewSlot r ≡ remade (onlyAt n (withShared now (within (viewKey key)))) (viewSlot self) ⌝ }
         ensures form { λ r. ⌜ (sessionForm self ≡ true → sessionForm r ≡ true) ⌝ }
     {
         if self.number == n {
@@ -205,7 +204,7 @@ impl Session {
 
     // An exclusive lease on a document; one that is held exclusively keeps its grant.
     pub fn with_exclusive(self, d: u8, now: u64) -> Self
-        ensures shows { λ r. ⌜ (d < documentCount → viewSlot r ≡ remade (λ n. withExclusive now d) (viewSlot self)) ⌝ }
+        ensures shows { λ r. ⌜ viewSlot r ≡ cond (ltb d documentCount) (remade (λ n. withExclusive now d) (viewSlot self)) (viewSlot self) ⌝ }
         ensures form { λ r. ⌜ (sessionForm self ≡ true → sessionForm r ≡ true) ⌝ }
     {
         let at = d as usize;
@@ -236,11 +235,14 @@ impl Session {
 
     // What a change of session n does to a session: n gets the lease and the change, another holder is doomed.
     pub fn grant(self, n: u32, c: Update, now: u64) -> Self
-        ensures shows { λ r. ⌜ (c .place .document < documentCount → viewSlot r ≡ remade (grant now n (viewUpdate c)) (viewSlot self)) ⌝ }
+        ensures shows { λ r. ⌜ viewSlot r ≡ cond (ltb (c .place .document) documentCount) (remade (grant now n (viewUpdate c)) (viewSlot self)) (viewSlot self) ⌝ }
         ensures form { λ r. ⌜ (isUsed c ≡ true → sessionForm self ≡ true → sessionForm r ≡ true) ⌝ }
     {
         let place = c.place;
         let d = place.document;
+        if Self::DOCUMENTS <= d as usize {
+            return self;
+        }
         if self.number == n {
             let s = self.with_exclusive(d, now);
             return s.with_last(c);

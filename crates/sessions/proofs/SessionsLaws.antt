@@ -3,13 +3,14 @@ use Prim.Native.Nat.{ℕ, _+_, _≤_, _<_}
 use native.Mathlib.Omega.{arith}
 use mathlib.Core.Path.{_≡_, refl, sym, _∙_, ap, fun-ext}
 use mathlib.Core.Bool.{Bool, true, false, not, cond, _||_}
-use mathlib.Core.List.{List, [], _∷_, map}
-use lib.Dec.{eqb}
+use mathlib.Core.List.{List, [], _∷_, map, map-id}
+use lib.Dec.{eqb, ltb}
 use lib.ListN.{length, getD, set}
 use borrow.Author.Tests.{le-leb, lt-leb}
+use Rattle.rules.specs.Limits.{documentCount}
 use Rattle.rules.specs.Lists.{any, pushed}
 use Rattle.rules.specs.Tables as M
-use Rattle.rules.specs.Effects.{opened, firstDoomed, room, loses, isLost}
+use Rattle.rules.specs.Effects.{opened, firstDoomed, room, grant, loses, isLost}
 use Rattle.rules.proofs.Laws.{or-zero}
 use Rattle.lists.specs.Find.{fold}
 use Rattle.lists.specs.Table.{counted}
@@ -18,6 +19,8 @@ use Rattle.lists.proofs.Forms.{form-empty, form-push, used-at}
 use Rattle.lists.proofs.Remake.{remake-end, form-set}
 use Rattle.docset.specs.Sets.{docs}
 use Rattle.docset.proofs.SetLaws.{docs-none}
+use Rattle.changes.specs.declared.Update.{Update}
+use Rattle.changes.specs.View.{viewUpdate}
 use Rattle.session.specs.declared.Session.{Session}
 use Rattle.session.specs.View.{viewSlot}
 use Rattle.session.specs.Form.{sessionForm, isUnused}
@@ -95,6 +98,19 @@ module _ (t : Sessions) (g : M.Slot → M.Slot) (vs : List Session) (i : ℕ) (i
   pub remade-past : 8 ≤ i → viewSessions (record { count = t .count; slots = vs }) ≡ map g (viewSessions t)
   unfolding viewSessions
   remade-past h = remake-past inv (t .count) h
+
+-- a test that is the same for each is one for all
+each-if : (b : Bool) (g : M.Slot → M.Slot) (l : List M.Slot) → map (λ s. cond b (g s) s) l ≡ cond b (map g l) l
+each-if true g l = refl
+each-if false g l = map-id l
+
+unfoldable pub granted : ℕ → ℕ → Update → M.Slot → M.Slot
+granted now n c s = cond (ltb (c .place .document) documentCount) (M.remade (grant now n (viewUpdate c)) s) s
+
+pub granted-all : (now n : ℕ) (c : Update) (t r : Sessions) → viewSessions r ≡ map (granted now n c) (viewSessions t)
+    → viewSessions r ≡ cond (ltb (c .place .document) documentCount) (M.each (grant now n (viewUpdate c)) (viewSessions t)) (viewSessions t)
+unfolding granted
+granted-all now n c t r e = e ∙ each-if (ltb (c .place .document) documentCount) (M.remade (grant now n (viewUpdate c))) (viewSessions t)
 
 pub set-form : (n : ℕ) (vs : List Session) (i : ℕ) (s : Session) → i < n → sessionForm s ≡ true → sessionsForm (record { count = n; slots = vs }) ≡ true → sessionsForm (record { count = n; slots = set vs i s }) ≡ true
 unfolding sessionsForm

@@ -27,7 +27,7 @@ unfolding viewKey
 loop-holds c = (search (work-start, length-mapped, needs), λ f. f)
 
 returns : tie.Need-returns Inv-loop μ-loop
-returns c = (λ h. share-key _ _ _ _ (work-end (c .before .before .loop .inv .0) (search needs)) h, c .before .before .loop .inv .1)
+returns c = (share-key _ _ _ _ (work-end (c .before .before .loop .inv .0) (search needs)), c .before .before .loop .inv .1)
 
 mul-q : tie.Need-mul-q Inv-loop μ-loop
 mul-q c = search needs
@@ -51,7 +51,7 @@ loop-again c = (
 )
 
 returns-2 : tie.Need-returns-2 Inv-loop μ-loop
-returns-2 c = (λ h. share-key _ _ _ _ (work-past (c .before .loop .inv .0) (search needs)) h, c .before .loop .inv .1)
+returns-2 c = (share-key _ _ _ _ (work-past (c .before .loop .inv .0) (search needs)), c .before .loop .inv .1)
 
 pub share-spec : {M : Type 1} → statement M
 share-spec =

@@ -1,19 +1,18 @@
 -- `Session::with_exclusive` meets its contract.
-use native.Mathlib.Omega.{arith}
-use Rattle.session.proofs.SessionLaws.{exclude-held, exclude-new}
+use Rattle.session.proofs.SessionLaws.{exclude-past, exclude-held, exclude-new}
 use Rattle.session.proofs.FormLaws.{exclude-form}
 use borrow.Author.Needs.{needs}
 use Rattle.session.proofs.Session.with_exclusive.Statement.{statement}
 use Rattle.session.proofs.Session.with_exclusive.Tie as tie
 
 returns : tie.Need-returns
-returns c = (λ h. absurd (omega arith), λ f. f)
+returns c = (exclude-past _ _ _ (c .if1 .taken), λ f. f)
 
 has-requires : tie.Need-has-requires
 has-requires c κs = search needs
 
 returns-2 : tie.Need-returns-2
-returns-2 c = (λ h. exclude-held _ _ _ (c .before .has .ensures) (c .if2 .taken), λ f. f)
+returns-2 c = (exclude-held _ _ _ (search needs) (c .before .has .ensures) (c .if2 .taken), λ f. f)
 
 without-requires : tie.Need-without-requires
 without-requires c κs = search needs

@@ -5,19 +5,17 @@ use Prim.Native.Nat.{_-_}
 use Rattle.lists.proofs.Loops.{length-mapped}
 use mathlib.Core.Bool.{true}
 use Rattle.lists.proofs.Views.{Remaking, remake-start, remake-next}
-use Rattle.session.specs.View.{viewSlot}
+use Rattle.session.specs.View.{viewSlot, within}
 use Rattle.sessions.specs.Form.{sessionsForm}
 use Rattle.sessions.proofs.SessionsLaws.{remade-end, remade-past, set-form, slot-form}
 use Rattle.rules.specs.Tables.{remade}
-use Rattle.rules.specs.Lists.{all}
-use Rattle.rules.specs.Values.{inRange}
 use Rattle.rules.specs.Effects.{onlyAt, withShared}
 use Rattle.keys.specs.View.{viewKey}
 use Rattle.sessions.proofs.Sessions.shared.Statement.{statement}
 use Rattle.sessions.proofs.Sessions.shared.Tie as tie
 
 abbrev Inv-loop : tie.InvT-loop
-Inv-loop self n key now old count slots₀ i₀ slots i = (all inRange (viewKey key) ≡ true → Remaking viewSlot (remade (onlyAt n (withShared now (viewKey key)))) old 8 slots i) × (sessionsForm self ≡ true → sessionsForm (record { count = self .count; slots = slots }) ≡ true)
+Inv-loop self n key now old count slots₀ i₀ slots i = Remaking viewSlot (remade (onlyAt n (withShared now (within (viewKey key))))) old 8 slots i × (sessionsForm self ≡ true → sessionsForm (record { count = self .count; slots = slots }) ≡ true)
 
 abbrev μ-loop : tie.MeasureT-loop
 μ-loop self n key now old count slots₀ i₀ slots i = 8 - i
@@ -26,10 +24,10 @@ cast-count : tie.Need-cast-count Inv-loop μ-loop
 cast-count c = search needs
 
 loop-holds : tie.Need-loop-holds Inv-loop μ-loop
-loop-holds c = (λ h. search (remake-start, length-mapped, needs), λ f. f)
+loop-holds c = (search (remake-start, length-mapped, needs), λ f. f)
 
 returns : tie.Need-returns Inv-loop μ-loop
-returns c = (λ h. remade-end _ _ _ _ (c .before .before .loop .inv .0 h) (c .if1 .taken), c .before .before .loop .inv .1)
+returns c = (remade-end _ _ _ _ (c .before .before .loop .inv .0) (c .if1 .taken), c .before .before .loop .inv .1)
 
 mul-s : tie.Need-mul-s Inv-loop μ-loop
 mul-s c = search needs
@@ -54,12 +52,12 @@ loop-less c = search needs
 
 loop-again : tie.Need-loop-again Inv-loop μ-loop
 loop-again c = (
-  λ h. remake-next (c .before .before .before .before .loop .inv .0 h) _ (c .before .before .before .loop-test .taken) (c .share-own .ensures .0 h),
+  remake-next (c .before .before .before .before .loop .inv .0) _ (c .before .before .before .loop-test .taken) (c .share-own .ensures .0),
   λ f. set-form _ _ _ _ (c .before .before .if1 .left) (c .share-own .ensures .1 (slot-form _ _ _ (c .before .before .if1 .left) f)) (c .before .before .before .before .loop .inv .1 f),
 )
 
 returns-2 : tie.Need-returns-2 Inv-loop μ-loop
-returns-2 c = (λ h. remade-past _ _ _ _ (c .before .loop .inv .0 h) (c .loop-test .left), c .before .loop .inv .1)
+returns-2 c = (remade-past _ _ _ _ (c .before .loop .inv .0) (c .loop-test .left), c .before .loop .inv .1)
 
 pub shared-spec : {M : Type 1} → statement M
 shared-spec =
