@@ -2,144 +2,25 @@
 ghost use mathlib.Core.Path.{_≡_};
 ghost use mathlib.Core.Bool.{true, cond};
 ghost use mathlib.Core.List.{[], map};
-ghost use lib.Dec.{eqb};
 ghost use lib.ListN.{length};
 ghost use Rattle.rules.specs.Limits.{cacheLimit};
 ghost use Rattle.rules.specs.Lists.{any, keep, pushed, dropAt};
 ghost use Rattle.rules.specs.Tables.{isCached};
-ghost use Rattle.rules.specs.Reading.{showsIt, fieldAt, cachedField};
+ghost use Rattle.rules.specs.Reading.{showsIt, cachedField};
 ghost use Rattle.rules.specs.Effects.{stays};
 ghost use Rattle.docset.specs.Sets.{docs};
-ghost use Rattle.keys.specs.View.{viewPlace, viewKey, viewKeys};
+ghost use Rattle.keys.specs.View.{viewPlace, viewKeys};
 ghost use Rattle.field.specs.View.{viewField, fieldForm};
 ghost use Rattle.changes.specs.View.{viewChanges};
-ghost use Rattle.cache.specs.View.{noCached, withField, afterChanges, viewCached, viewCache};
-ghost use Rattle.cache.specs.Form.{cachedForm, isBlankCached, cacheForm};
+ghost use Rattle.cached.specs.View.{viewCached, afterChanges};
+ghost use Rattle.cached.specs.Form.{cachedForm};
+ghost use Rattle.cache.specs.View.{viewCache};
+ghost use Rattle.cache.specs.Form.{cacheForm};
+use cached::Cached;
 use changes::Changes;
 use field::Field;
-use keys::Key;
 use keys::Keys;
 use keys::Place;
-
-// A key's number, with the fields of its places.
-pub struct Cached {
-    pub key: u8,
-    pub count: u8,
-    pub fields: [Field; Key::LIMIT],
-}
-
-impl Cached {
-    pub const LIMIT: usize = 4;
-
-    pub fn empty() -> Self
-        ensures shows { λ r. ⌜ viewCached r ≡ noCached ⌝ }
-        ensures form { λ r. ⌜ isBlankCached r ≡ true ⌝ }
-    {
-        let f = Field::empty();
-        Self {
-            key: 0,
-            count: 0,
-            fields: [f; Self::LIMIT],
-        }
-    }
-
-    // The key of a number, without fields yet.
-    pub fn of(key: u8) -> Self
-        ensures shows { λ r. ⌜ viewCached r ≡ record { key = key; fields = [] } ⌝ }
-        ensures form { λ r. ⌜ cachedForm r ≡ true ⌝ }
-    {
-        let f = Field::empty();
-        Self {
-            key,
-            count: 0,
-            fields: [f; Self::LIMIT],
-        }
-    }
-
-    // Is it the key of a number?
-    fn is(self, k: u8) -> bool
-        ensures { λ r. ⌜ r ≡ eqb k (viewCached self .key) ⌝ }
-    {
-        k == self.key
-    }
-
-    // Does it show a place?
-    pub fn shows(self, keys: Keys, q: Place) -> bool
-        ensures { λ r. ⌜ r ≡ showsIt (viewKeys keys) (viewPlace q) (viewCached self) ⌝ }
-    {
-        let k = keys.key(self.key);
-        k.has(q)
-    }
-
-    // One more field, if there is room.
-    pub fn push(self, f: Field) -> Self
-        ensures shows { λ r. ⌜ viewCached r ≡ withField (viewField f) (viewCached self) ⌝ }
-        ensures form { λ r. ⌜ (fieldForm f ≡ true → cachedForm self ≡ true → cachedForm r ≡ true) ⌝ }
-    {
-        let at = self.count as usize;
-        if Self::LIMIT <= at {
-            return self;
-        }
-        let mut t = self;
-        t.fields[at] = f;
-        t.count = self.count + 1;
-        t
-    }
-
-    // The field of a place, where the key's places are those of `key`.
-    pub fn field(self, key: Key, q: Place) -> Field
-        ensures shows { λ r. ⌜ viewField r ≡ fieldAt (viewPlace q) (viewKey key) (viewCached self .fields) ⌝ }
-        ensures form { λ r. ⌜ (cachedForm self ≡ true → fieldForm r ≡ true) ⌝ }
-    {
-        let places = key.count as usize;
-        let count = self.count as usize;
-        let mut i: usize = 0;
-        while i < Self::LIMIT {
-            if places <= i {
-                return Field::empty();
-            }
-            if count <= i {
-                return Field::empty();
-            }
-            let p = key.places[i];
-            if q.is(p) {
-                return self.fields[i];
-            }
-            i += 1;
-        }
-        Field::empty()
-    }
-
-    // After changes, where the key's places are those of `key`.
-    pub fn after(self, key: Key, cs: Changes) -> Self
-        ensures shows { λ r. ⌜ viewCached r ≡ afterChanges (viewChanges cs) (viewKey key) (viewCached self) ⌝ }
-        ensures form { λ r. ⌜ (cachedForm self ≡ true → cachedForm r ≡ true) ⌝ }
-    {
-        let count = self.count as usize;
-        let mut t = Cached::of(self.key);
-        let mut i: usize = 0;
-        while i < Self::LIMIT {
-            if count <= i {
-                return t;
-            }
-            let q = key.place(i as u8);
-            let old = self.fields[i];
-            let f = cs.run(q, old);
-            t = t.push(f);
-            i += 1;
-        }
-        t
-    }
-
-    // After changes, with the places that the table of keys gives it.
-    pub fn up_to_date(self, keys: Keys, cs: Changes) -> Self
-        ensures shows { λ r. ⌜ viewCached r ≡ afterChanges (viewChanges cs) (viewKeys keys (viewCached self .key)) (viewCached self) ⌝ }
-        ensures form { λ r. ⌜ (cachedForm self ≡ true → cachedForm r ≡ true) ⌝ }
-    {
-        let key = keys.key(self.key);
-        self.after(key, cs)
-    }
-}
 
 // The cached keys, in the order in which they came.
 pub struct Cache {
@@ -154,7 +35,7 @@ impl Cache {
         ensures shows { λ r. ⌜ viewCache r ≡ [] ⌝ }
         ensures form { λ r. ⌜ cacheForm r ≡ true ⌝ }
     {
-        let c = Cached::empty();
+        let c = Cached::of(0);
         Self {
             count: 0,
             entries: [c; Self::LIMIT],
@@ -284,7 +165,7 @@ impl Cache {
         if n == 0 {
             return self;
         }
-        let none = Cached::empty();
+        let none = Cached::of(0);
         let mut t = self;
         let mut j: usize = 0;
         while j + 1 < Self::LIMIT {

@@ -8,14 +8,14 @@ use Rattle.cache.proofs.Cache.empty.Statement.{statement}
 use Rattle.cache.proofs.Cache.empty.Tie as tie
 use Rattle.cache.proofs.Cache.empty.Reads as reads
 use Rattle.cache.proofs.Cache.empty.Lts as lts
-use Rattle.cache.proofs.Cached.empty.Reads as empty-reads
+use Rattle.cached.proofs.Cached.of.Reads as of-reads
 
-empty-requires : tie.Need-empty-requires
-empty-requires c κs = search needs
+of-requires : tie.Need-of-requires
+of-requires c κs = search needs
 
 returns : tie.Need-returns
 unfolding viewCache counted
-returns c = (refl, cache-empty _ (c .empty .ensures .1))
+returns c = (refl, cache-empty _ (c .of .ensures .0) (c .of .ensures .1))
 
 pub empty-spec : {M : Type 1} → statement M
-empty-spec = tie.close (tie.spec empty-requires returns)
+empty-spec = tie.close (tie.spec of-requires returns)

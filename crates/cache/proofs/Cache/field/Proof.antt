@@ -6,13 +6,15 @@ use Rattle.rules.specs.Reading as D
 use Rattle.keys.specs.View.{viewPlace, viewKeys}
 use Rattle.lists.proofs.Loops.{length-mapped}
 use Rattle.lists.proofs.Views.{Seeking, seek-start, seek-hit, seek-next, seek-end, seek-past}
-use Rattle.cache.specs.View.{viewCached, viewCache}
-use Rattle.cache.proofs.CacheLaws.{shows-is, field-of, entry-form}
+use Rattle.cached.specs.View.{viewCached}
+use Rattle.cache.specs.View.{viewCache}
+use Rattle.cache.proofs.CacheLaws.{entry-form}
+use Rattle.cached.proofs.CachedLaws.{shows-is, field-of}
 use Rattle.cache.proofs.Cache.field.Statement.{statement}
 use Rattle.cache.proofs.Cache.field.Tie as tie
 use Rattle.cache.proofs.Cache.field.Reads as reads
 use Rattle.cache.proofs.Cache.field.Lts as lts
-use Rattle.cache.proofs.Cached.field.Reads as field-reads
+use Rattle.cached.proofs.Cached.field.Reads as field-reads
 use Rattle.field.proofs.Field.empty.Reads as empty-reads
 use Rattle.keys.proofs.Key.has.Reads as has-reads
 use Rattle.keys.proofs.Keys.key.Reads as key-reads

@@ -6,12 +6,13 @@ use lib.Dec.{eqb}
 use Rattle.rules.specs.Tables as M
 use Rattle.lists.proofs.Loops.{length-mapped}
 use Rattle.lists.proofs.Views.{Seeking, seek-start, seek-hit, seek-next, seek-end, seek-past}
-use Rattle.cache.specs.View.{viewCached, viewCache}
+use Rattle.cached.specs.View.{viewCached}
+use Rattle.cache.specs.View.{viewCache}
 use Rattle.cache.proofs.Cache.has.Statement.{statement}
 use Rattle.cache.proofs.Cache.has.Tie as tie
 use Rattle.cache.proofs.Cache.has.Reads as reads
 use Rattle.cache.proofs.Cache.has.Lts as lts
-use Rattle.cache.proofs.Cached.is.Reads as is-reads
+use Rattle.cached.proofs.Cached.is.Reads as is-reads
 
 abbrev Inv-loop : tie.InvT-loop
 Inv-loop k self count i₀ i = Seeking viewCached (λ c. eqb k (c .key)) (λ c. true) false count 16 (self .entries) (M.isCached k (viewCache self)) i

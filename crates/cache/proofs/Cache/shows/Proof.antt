@@ -7,12 +7,13 @@ use Rattle.rules.specs.Reading as D
 use Rattle.keys.specs.View.{viewPlace, viewKeys}
 use Rattle.lists.proofs.Loops.{length-mapped}
 use Rattle.lists.proofs.Views.{Seeking, seek-start, seek-hit, seek-next, seek-end, seek-past}
-use Rattle.cache.specs.View.{viewCached, viewCache}
+use Rattle.cached.specs.View.{viewCached}
+use Rattle.cache.specs.View.{viewCache}
 use Rattle.cache.proofs.Cache.shows.Statement.{statement}
 use Rattle.cache.proofs.Cache.shows.Tie as tie
 use Rattle.cache.proofs.Cache.shows.Reads as reads
 use Rattle.cache.proofs.Cache.shows.Lts as lts
-use Rattle.cache.proofs.Cached.shows.Reads as shows-reads
+use Rattle.cached.proofs.Cached.shows.Reads as shows-reads
 
 abbrev Inv-loop : tie.InvT-loop
 Inv-loop keys q self count i₀ i = Seeking viewCached (D.showsIt (viewKeys keys) (viewPlace q)) (λ c. true) false count 16 (self .entries) (any (D.showsIt (viewKeys keys) (viewPlace q)) (viewCache self)) i

@@ -10,7 +10,8 @@ use Rattle.keys.specs.View.{viewKeys}
 use Rattle.changes.specs.View.{viewChanges}
 use Rattle.lists.proofs.Loops.{length-mapped}
 use Rattle.lists.proofs.Views.{Mapping, map-start, map-next, map-end, map-past, map-is}
-use Rattle.cache.specs.View.{viewCached, viewCache, afterChanges}
+use Rattle.cached.specs.View.{viewCached, afterChanges}
+use Rattle.cache.specs.View.{viewCache}
 use Rattle.cache.specs.Form.{cacheForm}
 use Rattle.cache.proofs.CacheLaws.{entry-form}
 use Rattle.cache.proofs.Cache.up_to_date.Statement.{statement}
@@ -19,7 +20,7 @@ use Rattle.cache.proofs.Cache.up_to_date.Reads as reads
 use Rattle.cache.proofs.Cache.up_to_date.Lts as lts
 use Rattle.cache.proofs.Cache.empty.Reads as empty-reads
 use Rattle.cache.proofs.Cache.push.Reads as push-reads
-use Rattle.cache.proofs.Cached.up_to_date.Reads as up-to-date-reads
+use Rattle.cached.proofs.Cached.up_to_date.Reads as up-to-date-reads
 
 abbrev Inv-loop : tie.InvT-loop
 Inv-loop keys cs self count t₀ i₀ t i =

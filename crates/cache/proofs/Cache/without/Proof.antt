@@ -9,7 +9,8 @@ use Rattle.docset.specs.Sets.{docs}
 use Rattle.keys.specs.View.{viewKeys}
 use Rattle.lists.proofs.Loops.{length-mapped}
 use Rattle.lists.proofs.Views.{Keeping, keep-start, keep-next, keep-end, keep-past}
-use Rattle.cache.specs.View.{viewCached, viewCache}
+use Rattle.cached.specs.View.{viewCached}
+use Rattle.cache.specs.View.{viewCache}
 use Rattle.cache.specs.Form.{cacheForm}
 use Rattle.cache.proofs.CacheLaws.{entry-form}
 use Rattle.cache.proofs.Cache.without.Statement.{statement}

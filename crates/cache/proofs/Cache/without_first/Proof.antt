@@ -10,7 +10,7 @@ use Rattle.cache.proofs.Cache.without_first.Tie as tie
 use Rattle.cache.proofs.Cache.without_first.Reads as reads
 use Rattle.cache.proofs.Cache.without_first.Lts as lts
 use Rattle.cache.proofs.Cache.len.Reads as len-reads
-use Rattle.cache.proofs.Cached.empty.Reads as empty-reads
+use Rattle.cached.proofs.Cached.of.Reads as of-reads
 
 abbrev Inv-loop : tie.InvT-loop
 Inv-loop self n none t₀ j₀ t j = Removing none 0 (self .entries) 16 (t .entries) j
@@ -24,8 +24,8 @@ len-requires c κs = search needs
 returns : tie.Need-returns Inv-loop μ-loop
 returns c = (search (first-none, needs), λ f. f)
 
-empty-requires : tie.Need-empty-requires Inv-loop μ-loop
-empty-requires c κs = search needs
+of-requires : tie.Need-of-requires Inv-loop μ-loop
+of-requires c κs = search needs
 
 loop-holds : tie.Need-loop-holds Inv-loop μ-loop
 loop-holds c = search (remove-start, length-mapped, needs)
@@ -77,7 +77,7 @@ without-first-spec =
     μ-loop
     len-requires
     returns
-    empty-requires
+    of-requires
     loop-holds
     add-loop
     add-t

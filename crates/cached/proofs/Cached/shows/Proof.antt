@@ -1,10 +1,10 @@
 -- `Cached::shows` meets its contract.
-use Rattle.cache.proofs.CacheLaws.{shows-is}
+use Rattle.cached.proofs.CachedLaws.{shows-is}
 use borrow.Author.Needs.{needs}
-use Rattle.cache.proofs.Cached.shows.Statement.{statement}
-use Rattle.cache.proofs.Cached.shows.Tie as tie
-use Rattle.cache.proofs.Cached.shows.Reads as reads
-use Rattle.cache.proofs.Cached.shows.Lts as lts
+use Rattle.cached.proofs.Cached.shows.Statement.{statement}
+use Rattle.cached.proofs.Cached.shows.Tie as tie
+use Rattle.cached.proofs.Cached.shows.Reads as reads
+use Rattle.cached.proofs.Cached.shows.Lts as lts
 use Rattle.keys.proofs.Key.has.Reads as has-reads
 use Rattle.keys.proofs.Keys.key.Reads as key-reads
 

@@ -1,11 +1,11 @@
 -- `Cached::push` meets its contract.
 use Rattle.lists.proofs.Loops.{length-mapped}
-use Rattle.cache.proofs.CacheLaws.{field-room, field-full, field-pushed}
+use Rattle.cached.proofs.CachedLaws.{field-room, field-full, field-pushed}
 use borrow.Author.Needs.{needs}
-use Rattle.cache.proofs.Cached.push.Statement.{statement}
-use Rattle.cache.proofs.Cached.push.Tie as tie
-use Rattle.cache.proofs.Cached.push.Reads as reads
-use Rattle.cache.proofs.Cached.push.Lts as lts
+use Rattle.cached.proofs.Cached.push.Statement.{statement}
+use Rattle.cached.proofs.Cached.push.Tie as tie
+use Rattle.cached.proofs.Cached.push.Reads as reads
+use Rattle.cached.proofs.Cached.push.Lts as lts
 
 cast-at : tie.Need-cast-at
 cast-at c = search needs

@@ -1,13 +1,13 @@
 -- `Cached::of` meets its contract.
 use mathlib.Core.Path.{refl}
 use Rattle.lists.specs.Table.{counted}
-use Rattle.cache.specs.View.{viewCached}
-use Rattle.cache.proofs.CacheLaws.{of-form}
+use Rattle.cached.specs.View.{viewCached}
+use Rattle.cached.proofs.CachedLaws.{of-form}
 use borrow.Author.Needs.{needs}
-use Rattle.cache.proofs.Cached.of.Statement.{statement}
-use Rattle.cache.proofs.Cached.of.Tie as tie
-use Rattle.cache.proofs.Cached.of.Reads as reads
-use Rattle.cache.proofs.Cached.of.Lts as lts
+use Rattle.cached.proofs.Cached.of.Statement.{statement}
+use Rattle.cached.proofs.Cached.of.Tie as tie
+use Rattle.cached.proofs.Cached.of.Reads as reads
+use Rattle.cached.proofs.Cached.of.Lts as lts
 use Rattle.field.proofs.Field.empty.Reads as empty-reads
 
 empty-requires : tie.Need-empty-requires
@@ -15,7 +15,7 @@ empty-requires c κs = search needs
 
 returns : tie.Need-returns
 unfolding viewCached counted
-returns c = (refl, of-form _ (c .empty .ensures .0) (c .empty .ensures .1) _)
+returns c = (refl, of-form _ _ (c .empty .ensures .0) (c .empty .ensures .1))
 
 pub of-spec : {M : Type 1} → statement M
 of-spec = tie.close (tie.spec empty-requires returns)

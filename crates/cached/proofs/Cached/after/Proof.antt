@@ -12,15 +12,15 @@ use Rattle.changes.specs.View.{viewChanges}
 use Rattle.lists.specs.Find.{mapFrom}
 use Rattle.lists.proofs.Loops.{length-mapped}
 use Rattle.lists.proofs.Views.{Mapping, map-start, map-next, map-end, map-past}
-use Rattle.cache.specs.View.{viewCached}
-use Rattle.cache.specs.Form.{cachedForm}
-use Rattle.cache.proofs.CacheLaws.{after-is, pushed-key, pushed-fields, field-form}
-use Rattle.cache.proofs.Cached.after.Statement.{statement}
-use Rattle.cache.proofs.Cached.after.Tie as tie
-use Rattle.cache.proofs.Cached.after.Reads as reads
-use Rattle.cache.proofs.Cached.after.Lts as lts
-use Rattle.cache.proofs.Cached.of.Reads as of-reads
-use Rattle.cache.proofs.Cached.push.Reads as push-reads
+use Rattle.cached.specs.View.{viewCached}
+use Rattle.cached.specs.Form.{cachedForm}
+use Rattle.cached.proofs.CachedLaws.{after-is, pushed-key, pushed-fields, field-form}
+use Rattle.cached.proofs.Cached.after.Statement.{statement}
+use Rattle.cached.proofs.Cached.after.Tie as tie
+use Rattle.cached.proofs.Cached.after.Reads as reads
+use Rattle.cached.proofs.Cached.after.Lts as lts
+use Rattle.cached.proofs.Cached.of.Reads as of-reads
+use Rattle.cached.proofs.Cached.push.Reads as push-reads
 use Rattle.changes.proofs.Changes.run.Reads as run-reads
 use Rattle.keys.proofs.Key.place.Reads as place-reads
 

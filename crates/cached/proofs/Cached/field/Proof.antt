@@ -2,11 +2,11 @@
 use borrow.Author.Needs.{needs}
 use Prim.Native.Nat.{_-_}
 use Rattle.lists.proofs.Loops.{length-mapped}
-use Rattle.cache.proofs.CacheLaws.{Reading, read-start, read-hit, read-next, read-no-place, read-no-field, read-past, field-form}
-use Rattle.cache.proofs.Cached.field.Statement.{statement}
-use Rattle.cache.proofs.Cached.field.Tie as tie
-use Rattle.cache.proofs.Cached.field.Reads as reads
-use Rattle.cache.proofs.Cached.field.Lts as lts
+use Rattle.cached.proofs.CachedLaws.{Reading, read-start, read-hit, read-next, read-no-place, read-no-field, read-past, field-form}
+use Rattle.cached.proofs.Cached.field.Statement.{statement}
+use Rattle.cached.proofs.Cached.field.Tie as tie
+use Rattle.cached.proofs.Cached.field.Reads as reads
+use Rattle.cached.proofs.Cached.field.Lts as lts
 use Rattle.field.proofs.Field.empty.Reads as empty-reads
 use Rattle.keys.proofs.Place.is.Reads as is-reads
 

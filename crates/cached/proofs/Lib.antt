@@ -1,0 +1,3 @@
+-- Laws of a cached key.
+pub mod CachedLaws
+pub mod Unique

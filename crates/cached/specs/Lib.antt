@@ -1,0 +1,3 @@
+-- A cached key as the rules see it.
+pub mod View
+pub mod Form

@@ -1,0 +1,122 @@
+// A cached key: its number, with the fields that its places showed.
+ghost use mathlib.Core.Path.{_≡_};
+ghost use mathlib.Core.Bool.{true};
+ghost use mathlib.Core.List.{[]};
+ghost use lib.Dec.{eqb};
+ghost use Rattle.rules.specs.Reading.{showsIt, fieldAt};
+ghost use Rattle.keys.specs.View.{viewPlace, viewKey, viewKeys};
+ghost use Rattle.field.specs.View.{viewField, fieldForm};
+ghost use Rattle.changes.specs.View.{viewChanges};
+ghost use Rattle.cached.specs.View.{viewCached, withField, afterChanges};
+ghost use Rattle.cached.specs.Form.{cachedForm};
+use changes::Changes;
+use field::Field;
+use keys::Key;
+use keys::Keys;
+use keys::Place;
+
+// A key's number, with the fields of its places.
+pub struct Cached {
+    pub key: u8,
+    pub count: u8,
+    pub fields: [Field; Key::LIMIT],
+}
+
+impl Cached {
+    // The key of a number, without fields yet.
+    pub fn of(key: u8) -> Self
+        ensures shows { λ r. ⌜ viewCached r ≡ record { key = key; fields = [] } ⌝ }
+        ensures form { λ r. ⌜ cachedForm r ≡ true ⌝ }
+    {
+        let f = Field::empty();
+        Self {
+            key,
+            count: 0,
+            fields: [f; Key::LIMIT],
+        }
+    }
+
+    // Is it the key of a number?
+    pub fn is(self, k: u8) -> bool
+        ensures { λ r. ⌜ r ≡ eqb k (viewCached self .key) ⌝ }
+    {
+        k == self.key
+    }
+
+    // Does it show a place?
+    pub fn shows(self, keys: Keys, q: Place) -> bool
+        ensures { λ r. ⌜ r ≡ showsIt (viewKeys keys) (viewPlace q) (viewCached self) ⌝ }
+    {
+        let k = keys.key(self.key);
+        k.has(q)
+    }
+
+    // One more field, if there is room.
+    pub fn push(self, f: Field) -> Self
+        ensures shows { λ r. ⌜ viewCached r ≡ withField (viewField f) (viewCached self) ⌝ }
+        ensures form { λ r. ⌜ (fieldForm f ≡ true → cachedForm self ≡ true → cachedForm r ≡ true) ⌝ }
+    {
+        let at = self.count as usize;
+        if Key::LIMIT <= at {
+            return self;
+        }
+        let mut t = self;
+        t.fields[at] = f;
+        t.count = self.count + 1;
+        t
+    }
+
+    // The field of a place, where the key's places are those of `key`.
+    pub fn field(self, key: Key, q: Place) -> Field
+        ensures shows { λ r. ⌜ viewField r ≡ fieldAt (viewPlace q) (viewKey key) (viewCached self .fields) ⌝ }
+        ensures form { λ r. ⌜ (cachedForm self ≡ true → fieldForm r ≡ true) ⌝ }
+    {
+        let places = key.count as usize;
+        let count = self.count as usize;
+        let mut i: usize = 0;
+        while i < Key::LIMIT {
+            if places <= i {
+                return Field::empty();
+            }
+            if count <= i {
+                return Field::empty();
+            }
+            let p = key.places[i];
+            if q.is(p) {
+                return self.fields[i];
+            }
+            i += 1;
+        }
+        Field::empty()
+    }
+
+    // After changes, where the key's places are those of `key`.
+    pub fn after(self, key: Key, cs: Changes) -> Self
+        ensures shows { λ r. ⌜ viewCached r ≡ afterChanges (viewChanges cs) (viewKey key) (viewCached self) ⌝ }
+        ensures form { λ r. ⌜ (cachedForm self ≡ true → cachedForm r ≡ true) ⌝ }
+    {
+        let count = self.count as usize;
+        let mut t = Cached::of(self.key);
+        let mut i: usize = 0;
+        while i < Key::LIMIT {
+            if count <= i {
+                return t;
+            }
+            let q = key.place(i as u8);
+            let old = self.fields[i];
+            let f = cs.run(q, old);
+            t = t.push(f);
+            i += 1;
+        }
+        t
+    }
+
+    // After changes, with the places that the table of keys gives it.
+    pub fn up_to_date(self, keys: Keys, cs: Changes) -> Self
+        ensures shows { λ r. ⌜ viewCached r ≡ afterChanges (viewChanges cs) (viewKeys keys (viewCached self .key)) (viewCached self) ⌝ }
+        ensures form { λ r. ⌜ (cachedForm self ≡ true → cachedForm r ≡ true) ⌝ }
+    {
+        let key = keys.key(self.key);
+        self.after(key, cs)
+    }
+}
