@@ -2,42 +2,24 @@
 use Prim.Native.Nat.{ℕ, _<_}
 use native.Mathlib.Omega.{arith}
 use mathlib.Core.Path.{_≡_, refl, sym, _∙_, ap}
-use mathlib.Core.Bool.{Bool, true, false, cond, _&&_}
+use mathlib.Core.Bool.{Bool, true, false, cond}
 use mathlib.Core.List.{List, [], _∷_, _++_}
 use lib.ListN.{length, getD, replicate}
-use lib.Dec.{eqb}
 use Rattle.rules.specs.Lists.{has, any}
 use Rattle.rules.specs.Values as S
 use Rattle.rules.specs.Changes as C
 use Rattle.rules.specs.Tables as M
-use Rattle.rules.proofs.Laws.{byCase, both, run-append}
-use Rattle.field.specs.View.{viewField}
-use Rattle.field.specs.declared.Field.{Field}
-use Rattle.changes.specs.View.{viewChanges}
-use Rattle.changes.specs.Form.{changesForm}
-use Rattle.changes.specs.declared.Changes.{Changes}
+use Rattle.rules.proofs.Laws.{byCase, run-append}
 use Rattle.lists.specs.Find.{fold}
 use Rattle.lists.specs.Table.{counted}
 use Rattle.lists.proofs.Views.{Seeking, counted-next}
 use Rattle.lists.proofs.Forms.{form-empty, used-at}
-use Rattle.buffer.specs.View.{viewBatch, viewBuffer, carry}
-use Rattle.buffer.specs.Form.{batchForm, isUnused, bufferForm}
-use Rattle.buffer.specs.declared.Batch.{Batch}
+use Rattle.batch.specs.View.{viewBatch, carry}
+use Rattle.batch.specs.Form.{batchForm, isUnused}
+use Rattle.batch.specs.declared.Batch.{Batch}
+use Rattle.buffer.specs.View.{viewBuffer}
+use Rattle.buffer.specs.Form.{bufferForm}
 use Rattle.buffer.specs.declared.Buffer.{Buffer}
-
--- ── a buffered session ──
-pub unused-is : (cs : Changes) → viewChanges cs ≡ [] → changesForm cs ≡ true → isUnused (record { number = 0; changes = cs }) ≡ true
-unfolding isUnused
-unused-is cs n e = rw (n, e)
-
-module _ (b : Batch) (rows : List ℕ) (q : S.Place) (f : S.Field) {t : Bool} (a : t ≡ has (b .number) rows) where
-  pub carried-row : t ≡ true → f ≡ carry rows q f (viewBatch b)
-  unfolding carry viewBatch
-  carried-row e = rw (← a, e) refl
-
-  pub carried-now : {r : S.Field} → t ≡ false → r ≡ C.run (viewBatch b .changes) q f → r ≡ carry rows q f (viewBatch b)
-  unfolding carry viewBatch
-  carried-now e h = h ∙ rw (← a, e) refl
 
 -- ── the table ──
 pub empty-form : (b : Batch) → isUnused b ≡ true → bufferForm (record { count = 0; batches = replicate 32 b }) ≡ true

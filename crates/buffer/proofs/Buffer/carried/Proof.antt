@@ -9,14 +9,15 @@ use Rattle.keys.specs.View.{viewPlace}
 use Rattle.field.specs.View.{viewField, fieldForm}
 use Rattle.lists.proofs.Loops.{length-mapped}
 use Rattle.lists.proofs.Views.{Working, work-start, work-next, work-end, work-past}
-use Rattle.buffer.specs.View.{viewBatch, viewBuffer, carry}
+use Rattle.batch.specs.View.{viewBatch, carry}
+use Rattle.buffer.specs.View.{viewBuffer}
 use Rattle.buffer.proofs.BufferLaws.{run-all, run-pending}
 use Rattle.rows.specs.View.{viewRows}
 use Rattle.buffer.proofs.Buffer.carried.Statement.{statement}
 use Rattle.buffer.proofs.Buffer.carried.Tie as tie
 use Rattle.buffer.proofs.Buffer.carried.Reads as reads
 use Rattle.buffer.proofs.Buffer.carried.Lts as lts
-use Rattle.buffer.proofs.Batch.carried.Reads as carried-reads
+use Rattle.batch.proofs.Batch.carried.Reads as carried-reads
 
 abbrev Inv-loop : tie.InvT-loop
 Inv-loop rows q self count now₀ i₀ now i =

@@ -6,14 +6,15 @@ use lib.Dec.{eqb}
 use Rattle.rules.specs.Tables as M
 use Rattle.lists.proofs.Loops.{length-mapped}
 use Rattle.lists.proofs.Views.{Seeking, seek-start, seek-hit, seek-next, seek-end, seek-past}
-use Rattle.buffer.specs.View.{viewBatch, viewBuffer}
-use Rattle.buffer.specs.Form.{batchForm}
+use Rattle.batch.specs.View.{viewBatch}
+use Rattle.buffer.specs.View.{viewBuffer}
+use Rattle.batch.specs.Form.{batchForm}
 use Rattle.buffer.proofs.BufferLaws.{batch-form}
 use Rattle.buffer.proofs.Buffer.changes_of.Statement.{statement}
 use Rattle.buffer.proofs.Buffer.changes_of.Tie as tie
 use Rattle.buffer.proofs.Buffer.changes_of.Reads as reads
 use Rattle.buffer.proofs.Buffer.changes_of.Lts as lts
-use Rattle.buffer.proofs.Batch.is.Reads as is-reads
+use Rattle.batch.proofs.Batch.is.Reads as is-reads
 use Rattle.changes.proofs.Changes.empty.Reads as empty-reads
 
 abbrev Inv-loop : tie.InvT-loop

@@ -1,14 +1,14 @@
 -- `Buffer::empty` meets its contract.
 use mathlib.Core.Path.{refl}
 use Rattle.lists.specs.Table.{counted}
-use Rattle.buffer.specs.View.{viewBatch, viewBuffer}
+use Rattle.buffer.specs.View.{viewBuffer}
 use Rattle.buffer.proofs.BufferLaws.{empty-form}
 use borrow.Author.Needs.{needs}
 use Rattle.buffer.proofs.Buffer.empty.Statement.{statement}
 use Rattle.buffer.proofs.Buffer.empty.Tie as tie
 use Rattle.buffer.proofs.Buffer.empty.Reads as reads
 use Rattle.buffer.proofs.Buffer.empty.Lts as lts
-use Rattle.buffer.proofs.Batch.empty.Reads as empty-reads
+use Rattle.batch.proofs.Batch.empty.Reads as empty-reads
 
 empty-requires : tie.Need-empty-requires
 empty-requires c κs = search needs

@@ -6,12 +6,13 @@ use lib.Dec.{eqb}
 use Rattle.rules.specs.Tables as M
 use Rattle.lists.proofs.Loops.{length-mapped}
 use Rattle.lists.proofs.Views.{Seeking, seek-start, seek-hit, seek-next, seek-end, seek-past}
-use Rattle.buffer.specs.View.{viewBatch, viewBuffer}
+use Rattle.batch.specs.View.{viewBatch}
+use Rattle.buffer.specs.View.{viewBuffer}
 use Rattle.buffer.proofs.Buffer.has.Statement.{statement}
 use Rattle.buffer.proofs.Buffer.has.Tie as tie
 use Rattle.buffer.proofs.Buffer.has.Reads as reads
 use Rattle.buffer.proofs.Buffer.has.Lts as lts
-use Rattle.buffer.proofs.Batch.is.Reads as is-reads
+use Rattle.batch.proofs.Batch.is.Reads as is-reads
 
 abbrev Inv-loop : tie.InvT-loop
 Inv-loop n self count i₀ i = Seeking viewBatch (λ b. eqb n (b .number)) (λ b. true) false count 32 (self .batches) (M.isBuffered n (viewBuffer self)) i

@@ -2,7 +2,7 @@
 use borrow.Author.Needs.{needs}
 use Rattle.lists.proofs.Loops.{length-mapped}
 use Rattle.lists.proofs.Views.{counted-empty}
-use Rattle.buffer.specs.View.{viewBatch, viewBuffer}
+use Rattle.buffer.specs.View.{viewBuffer}
 use Rattle.buffer.proofs.Buffer.is_empty.Statement.{statement}
 use Rattle.buffer.proofs.Buffer.is_empty.Tie as tie
 use Rattle.buffer.proofs.Buffer.is_empty.Reads as reads

@@ -1,7 +1,7 @@
 -- `Buffer::len` meets its contract.
 use Rattle.lists.proofs.Loops.{length-mapped}
 use Rattle.lists.proofs.Views.{counted-few, counted-full}
-use Rattle.buffer.specs.View.{viewBatch, viewBuffer}
+use Rattle.buffer.specs.View.{viewBuffer}
 use borrow.Author.Needs.{needs}
 use Rattle.buffer.proofs.Buffer.len.Statement.{statement}
 use Rattle.buffer.proofs.Buffer.len.Tie as tie

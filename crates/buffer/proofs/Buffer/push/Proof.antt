@@ -2,8 +2,8 @@
 use Rattle.lists.proofs.Loops.{length-mapped}
 use Rattle.lists.proofs.Views.{push-room, push-full}
 use Rattle.lists.proofs.Forms.{form-push}
-use Rattle.buffer.specs.View.{viewBatch, viewBuffer}
-use Rattle.buffer.specs.Form.{batchForm, bufferForm}
+use Rattle.buffer.specs.View.{viewBuffer}
+use Rattle.buffer.specs.Form.{bufferForm}
 use borrow.Author.Needs.{needs}
 use Rattle.buffer.proofs.Buffer.push.Statement.{statement}
 use Rattle.buffer.proofs.Buffer.push.Tie as tie

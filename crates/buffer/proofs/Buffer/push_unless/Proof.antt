@@ -5,7 +5,7 @@ use Rattle.buffer.proofs.Buffer.push_unless.Statement.{statement}
 use Rattle.buffer.proofs.Buffer.push_unless.Tie as tie
 use Rattle.buffer.proofs.Buffer.push_unless.Reads as reads
 use Rattle.buffer.proofs.Buffer.push_unless.Lts as lts
-use Rattle.buffer.proofs.Batch.is.Reads as is-reads
+use Rattle.batch.proofs.Batch.is.Reads as is-reads
 use Rattle.buffer.proofs.Buffer.push.Reads as push-reads
 
 is-requires : tie.Need-is-requires

@@ -9,13 +9,14 @@ use Rattle.keys.specs.View.{viewPlace}
 use Rattle.field.specs.View.{viewField, fieldForm}
 use Rattle.lists.proofs.Loops.{length-mapped}
 use Rattle.lists.proofs.Views.{Working, work-start, work-next, work-end, work-past}
-use Rattle.buffer.specs.View.{viewBatch, viewBuffer, carry}
+use Rattle.batch.specs.View.{viewBatch}
+use Rattle.buffer.specs.View.{viewBuffer}
 use Rattle.buffer.proofs.BufferLaws.{run-all, run-pending}
 use Rattle.buffer.proofs.Buffer.run.Statement.{statement}
 use Rattle.buffer.proofs.Buffer.run.Tie as tie
 use Rattle.buffer.proofs.Buffer.run.Reads as reads
 use Rattle.buffer.proofs.Buffer.run.Lts as lts
-use Rattle.buffer.proofs.Batch.run.Reads as run-reads
+use Rattle.batch.proofs.Batch.run.Reads as run-reads
 
 abbrev Inv-loop : tie.InvT-loop
 Inv-loop q self count now₀ i₀ now i =

@@ -7,13 +7,14 @@ use Rattle.rules.specs.Changes as C
 use Rattle.keys.specs.View.{viewPlace}
 use Rattle.lists.proofs.Loops.{length-mapped}
 use Rattle.lists.proofs.Views.{Seeking, seek-hit, seek-next, seek-end, seek-past}
-use Rattle.buffer.specs.View.{viewBatch, viewBuffer}
+use Rattle.batch.specs.View.{viewBatch}
+use Rattle.buffer.specs.View.{viewBuffer}
 use Rattle.buffer.proofs.BufferLaws.{sets-start}
 use Rattle.buffer.proofs.Buffer.sets.Statement.{statement}
 use Rattle.buffer.proofs.Buffer.sets.Tie as tie
 use Rattle.buffer.proofs.Buffer.sets.Reads as reads
 use Rattle.buffer.proofs.Buffer.sets.Lts as lts
-use Rattle.buffer.proofs.Batch.sets.Reads as sets-reads
+use Rattle.batch.proofs.Batch.sets.Reads as sets-reads
 
 abbrev Inv-loop : tie.InvT-loop
 Inv-loop q self count i₀ i = Seeking viewBatch (λ b. C.setsIt (b .changes) (viewPlace q)) (λ b. true) false count 32 (self .batches) (C.setsIt (M.changesIn (viewBuffer self)) (viewPlace q)) i

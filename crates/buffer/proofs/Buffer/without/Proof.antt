@@ -7,8 +7,9 @@ use lib.Dec.{eqb}
 use Rattle.rules.specs.Tables as M
 use Rattle.lists.proofs.Loops.{length-mapped}
 use Rattle.lists.proofs.Views.{Keeping, keep-start, keep-next, keep-end, keep-past}
-use Rattle.buffer.specs.View.{viewBatch, viewBuffer}
-use Rattle.buffer.specs.Form.{batchForm, bufferForm}
+use Rattle.batch.specs.View.{viewBatch}
+use Rattle.buffer.specs.View.{viewBuffer}
+use Rattle.buffer.specs.Form.{bufferForm}
 use Rattle.buffer.proofs.BufferLaws.{batch-form}
 use Rattle.buffer.proofs.Buffer.without.Statement.{statement}
 use Rattle.buffer.proofs.Buffer.without.Tie as tie

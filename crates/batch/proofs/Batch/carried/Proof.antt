@@ -1,11 +1,11 @@
 -- `Batch::carried` meets its contract.
-use Rattle.buffer.proofs.BufferLaws.{carried-row, carried-now}
+use Rattle.batch.proofs.BatchLaws.{carried-row, carried-now}
 use borrow.Author.Needs.{needs}
-use Rattle.buffer.proofs.Batch.carried.Statement.{statement}
-use Rattle.buffer.proofs.Batch.carried.Tie as tie
-use Rattle.buffer.proofs.Batch.carried.Reads as reads
-use Rattle.buffer.proofs.Batch.carried.Lts as lts
-use Rattle.buffer.proofs.Batch.run.Reads as run-reads
+use Rattle.batch.proofs.Batch.carried.Statement.{statement}
+use Rattle.batch.proofs.Batch.carried.Tie as tie
+use Rattle.batch.proofs.Batch.carried.Reads as reads
+use Rattle.batch.proofs.Batch.carried.Lts as lts
+use Rattle.batch.proofs.Batch.run.Reads as run-reads
 use Rattle.rows.proofs.Rows.has.Reads as has-reads
 
 has-requires : tie.Need-has-requires

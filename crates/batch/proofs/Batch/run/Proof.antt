@@ -1,10 +1,10 @@
 -- `Batch::run` meets its contract.
-use Rattle.buffer.specs.View.{viewBatch, viewBuffer}
+use Rattle.batch.specs.View.{viewBatch}
 use borrow.Author.Needs.{needs}
-use Rattle.buffer.proofs.Batch.run.Statement.{statement}
-use Rattle.buffer.proofs.Batch.run.Tie as tie
-use Rattle.buffer.proofs.Batch.run.Reads as reads
-use Rattle.buffer.proofs.Batch.run.Lts as lts
+use Rattle.batch.proofs.Batch.run.Statement.{statement}
+use Rattle.batch.proofs.Batch.run.Tie as tie
+use Rattle.batch.proofs.Batch.run.Reads as reads
+use Rattle.batch.proofs.Batch.run.Lts as lts
 use Rattle.changes.proofs.Changes.run.Reads as run-reads
 
 run-requires : tie.Need-run-requires

@@ -1,10 +1,10 @@
 -- `Batch::sets` meets its contract.
-use Rattle.buffer.specs.View.{viewBatch, viewBuffer}
+use Rattle.batch.specs.View.{viewBatch}
 use borrow.Author.Needs.{needs}
-use Rattle.buffer.proofs.Batch.sets.Statement.{statement}
-use Rattle.buffer.proofs.Batch.sets.Tie as tie
-use Rattle.buffer.proofs.Batch.sets.Reads as reads
-use Rattle.buffer.proofs.Batch.sets.Lts as lts
+use Rattle.batch.proofs.Batch.sets.Statement.{statement}
+use Rattle.batch.proofs.Batch.sets.Tie as tie
+use Rattle.batch.proofs.Batch.sets.Reads as reads
+use Rattle.batch.proofs.Batch.sets.Lts as lts
 use Rattle.changes.proofs.Changes.sets.Reads as sets-reads
 
 sets-requires : tie.Need-sets-requires

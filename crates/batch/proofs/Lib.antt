@@ -1,0 +1,3 @@
+-- Laws of a buffered session.
+pub mod BatchLaws
+pub mod Unique

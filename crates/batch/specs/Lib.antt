@@ -1,0 +1,3 @@
+-- A buffered session as the rules see it.
+pub mod View
+pub mod Form

@@ -1,0 +1,21 @@
+-- `seen` meets its contract.
+use borrow.Author.Needs.{needs}
+use Rattle.reading.proofs.ReadingLaws.{run-from}
+use Rattle.reading.proofs.seen.Statement.{statement}
+use Rattle.reading.proofs.seen.Tie as tie
+use Rattle.reading.proofs.seen.Reads as reads
+use Rattle.reading.proofs.seen.Lts as lts
+use Rattle.changes.proofs.Changes.run.Reads as run-reads
+use Rattle.reading.proofs.current.Reads as current-reads
+
+current-requires : tie.Need-current-requires
+current-requires c κs = search needs
+
+run-requires : tie.Need-run-requires
+run-requires c κs = search needs
+
+returns : tie.Need-returns
+returns c = (search run-from, λ f. c .run .ensures .1 (c .before .current .ensures .1 f))
+
+pub seen-spec : {M : Type 1} → statement M
+seen-spec = tie.close (tie.spec current-requires run-requires returns)

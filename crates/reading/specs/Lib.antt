@@ -1,0 +1,2 @@
+-- Fields without the store.
+pub mod Shown

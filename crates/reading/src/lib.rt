@@ -1,0 +1,79 @@
+// A place's field: the current one, what a session sees, and both without the store.
+ghost use mathlib.Core.Path.{_≡_};
+ghost use mathlib.Core.Bool.{true};
+ghost use Rattle.rules.specs.Changes.{follow};
+ghost use Rattle.rules.specs.Tables.{pending, changesIn};
+ghost use Rattle.rules.specs.Reading.{knownAway, seenAway};
+ghost use Rattle.keys.specs.View.{viewPlace, viewKeys};
+ghost use Rattle.field.specs.View.{viewField, fieldForm};
+ghost use Rattle.changes.specs.View.{viewChanges};
+ghost use Rattle.store.specs.View.{viewStore, storeForm};
+ghost use Rattle.rows.specs.View.{viewRows};
+ghost use Rattle.buffer.specs.View.{viewBuffer};
+ghost use Rattle.cache.specs.View.{viewCache};
+ghost use Rattle.cache.specs.Form.{cacheForm};
+ghost use Rattle.reading.specs.Shown.{shownAway};
+use buffer::Buffer;
+use cache::Cache;
+use changes::Changes;
+use field::Field;
+use keys::Keys;
+use keys::Place;
+use rows::Rows;
+use store::Store;
+
+// The store's field, followed by the buffered changes of sessions without a row.
+pub fn current(store: Store, rows: Rows, buffer: Buffer, q: Place) -> Field
+    ensures shows { λ r. ⌜ viewField r ≡ follow (viewStore store) (changesIn (pending (viewRows rows) (viewBuffer buffer))) (viewPlace q) ⌝ }
+    ensures form { λ r. ⌜ (storeForm store ≡ true → fieldForm r ≡ true) ⌝ }
+{
+    let stored = store.field(q);
+    buffer.carried(rows, q, stored)
+}
+
+// What a session with these changes of its own sees.
+pub fn seen(store: Store, rows: Rows, buffer: Buffer, own: Changes, q: Place) -> Field
+    ensures shows { λ r. ⌜ viewField r ≡ follow (follow (viewStore store) (changesIn (pending (viewRows rows) (viewBuffer buffer)))) (viewChanges own) (viewPlace q) ⌝ }
+    ensures form { λ r. ⌜ (storeForm store ≡ true → fieldForm r ≡ true) ⌝ }
+{
+    let now = current(store, rows, buffer, q);
+    own.run(q, now)
+}
+
+// Can it be found without the store?
+pub fn known_away(keys: Keys, cache: Cache, buffer: Buffer, own: Changes, q: Place) -> bool
+    ensures { λ r. ⌜ r ≡ knownAway (viewKeys keys) (viewCache cache) (viewBuffer buffer) (viewChanges own) (viewPlace q) ⌝ }
+{
+    if cache.shows(keys, q) {
+        return true;
+    }
+    if buffer.sets(q) {
+        return true;
+    }
+    own.sets(q)
+}
+
+// What the buffer shows by itself, else a cached key.
+fn shown_away(keys: Keys, cache: Cache, buffer: Buffer, q: Place) -> Field
+    ensures shows { λ r. ⌜ viewField r ≡ shownAway (viewKeys keys) (viewCache cache) (viewBuffer buffer) (viewPlace q) ⌝ }
+    ensures form { λ r. ⌜ (cacheForm cache ≡ true → fieldForm r ≡ true) ⌝ }
+{
+    if buffer.sets(q) {
+        let absent = Field::empty();
+        return buffer.run(q, absent);
+    }
+    cache.field(keys, q)
+}
+
+// What a session sees where it is known, found without the store.
+pub fn seen_away(keys: Keys, cache: Cache, buffer: Buffer, own: Changes, q: Place) -> Field
+    ensures shows { λ r. ⌜ viewField r ≡ seenAway (viewKeys keys) (viewCache cache) (viewBuffer buffer) (viewChanges own) (viewPlace q) ⌝ }
+    ensures form { λ r. ⌜ (cacheForm cache ≡ true → fieldForm r ≡ true) ⌝ }
+{
+    if own.sets(q) {
+        let absent = Field::empty();
+        return own.run(q, absent);
+    }
+    let shown = shown_away(keys, cache, buffer, q);
+    own.run(q, shown)
+}
