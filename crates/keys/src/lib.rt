@@ -184,7 +184,7 @@ impl Key {
     }
 }
 
-// The 32 keys.
+// The keys by their numbers.
 pub struct Keys {
     pub all: [Key; Keys::LIMIT],
 }
