@@ -14,7 +14,7 @@ ghost use Rattle.changes.specs.Form.{isUsed, isUnused, changesForm};
 use field::Field;
 use keys::Place;
 
-// A change: its place, its number 1 to 6 and its value.
+// A change: its place, the number of its kind and its value.
 pub struct Update {
     pub place: Place,
     pub kind: u8,

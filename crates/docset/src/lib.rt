@@ -10,11 +10,14 @@ ghost use Rattle.rules.specs.Tables.{documents};
 ghost use Rattle.rules.specs.Step.{count};
 ghost use Rattle.docset.specs.Sets.{docs};
 
-// Is document d in the set? No set holds one from 64 on.
+// How many documents there are.
+pub const DOCUMENTS: u8 = 64;
+
+// Is document d in the set? No set holds one past the last.
 pub fn has(set: u64, d: u8) -> bool
     ensures { λ r. ⌜ r ≡ docs set d ⌝ }
 {
-    if 64 <= d {
+    if DOCUMENTS <= d {
         return false;
     }
     (set >> d) % 2 == 1
@@ -24,7 +27,7 @@ pub fn has(set: u64, d: u8) -> bool
 pub fn with(set: u64, d: u8) -> u64
     ensures { λ r. ⌜ docs r ≡ override (docs set) d (ltb d documentCount) ⌝ }
 {
-    if d < 64 {
+    if d < DOCUMENTS {
         return set | (1 << d);
     }
     set
@@ -54,7 +57,7 @@ pub fn count(set: u64) -> u8
     u64::count_ones(set) as u8
 }
 
-// The lowest document of the set, or 64 if it is empty.
+// The lowest document of the set, or their number if it is empty.
 pub fn lowest(set: u64) -> u8
     ensures { λ r. ⌜ r ≡ from (docs set) (λ d. d) documentCount documents ⌝ }
 {
@@ -62,7 +65,7 @@ pub fn lowest(set: u64) -> u8
 }
 
 // Has a document of the set a tick of at most limit?
-pub fn any_over(set: u64, ticks: [u64; 64], limit: u64) -> bool
+pub fn any_over(set: u64, ticks: [u64; DOCUMENTS as usize], limit: u64) -> bool
     ensures { λ r. ⌜ r ≡ any (λ d. docs set d && leb (getD ticks d 0) limit) documents ⌝ }
 {
     let mut rest = set;
@@ -78,7 +81,7 @@ pub fn any_over(set: u64, ticks: [u64; 64], limit: u64) -> bool
 }
 
 // The ticks, with 0 for each document of the set.
-pub fn cleared(set: u64, ticks: [u64; 64]) -> [u64; 64]
+pub fn cleared(set: u64, ticks: [u64; DOCUMENTS as usize]) -> [u64; DOCUMENTS as usize]
     ensures { λ r. ⌜ r ≡ map (λ d. cond (docs set d) 0 (getD ticks d 0)) documents ⌝ }
 {
     let mut left = ticks;

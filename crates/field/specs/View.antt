@@ -18,13 +18,20 @@ use Rattle.field.specs.declared.Field.{Field}
 use Rattle.field.specs.declared.Applied.{Applied}
 
 -- ── a field ──
--- any kind but 0 and 1 is a list: of the first count values, and at most of all six
+-- the numbers of the first two kinds
+abbrev pub absentKind : ℕ
+absentKind = kindOfField S.absent
+
+abbrev pub numberKind : ℕ
+numberKind = kindOfField (S.number (pos 0))
+
+-- any other kind is a list: of the first count values, and at most of all that there are
 unfoldable pub viewField : Field → S.Field
 viewField f =
-    cond (eqb (f .kind) 0) S.absent
-    (cond (eqb (f .kind) 1) (S.number (getD (f .values) 0 (pos 0))) (S.list (take (f .count) (f .values))))
+    cond (eqb (f .kind) absentKind) S.absent
+    (cond (eqb (f .kind) numberKind) (S.number (getD (f .values) 0 (pos 0))) (S.list (take (f .count) (f .values))))
 
--- the one form of what is seen: its kind, its count, 32 bits for each value that counts, and 0 for the rest of the six
+-- the one form of what is seen: its kind, its count, 32 bits for each value that counts, and 0 for the rest
 unfoldable pub fieldForm : Field → Bool
 fieldForm f =
     eqb (f .kind) (kindOfField (viewField f))

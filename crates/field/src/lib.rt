@@ -12,7 +12,7 @@ ghost use Rattle.rules.specs.Values as S;
 ghost use Rattle.rules.specs.Values.{kindOfField, valuesOf, show};
 ghost use Rattle.rules.specs.Changes as C;
 ghost use Rattle.rules.specs.Changes.{change, kindOf};
-ghost use Rattle.field.specs.View.{viewField, viewApplied, fieldForm, Exact, indexOf};
+ghost use Rattle.field.specs.View.{viewField, viewApplied, fieldForm, Exact, indexOf, numberKind};
 
 // Absent (count 0), a number (count 1) or a list of count values. Values that do not count are 0.
 // Every method holds of other fields too, as the view reads them.
@@ -38,7 +38,7 @@ impl Applied {
     pub const SUM_TOO_LARGE: u8 = 8;
 }
 
-// The changes by their numbers. A pull has the last number, 6, and any other is taken for it.
+// The changes by their numbers. A pull has the last one, and any other is taken for it.
 const SET: u8 = 1;
 
 const UNSET: u8 = 2;
@@ -201,7 +201,7 @@ impl Field {
 
     // v put last, in a field that is no number; absent is the empty list, here and in the next two.
     fn push(self, v: i32) -> Applied
-        requires { ⌜ (self .kind ≡ 1 → ⊥) ⌝ }
+        requires { ⌜ (self .kind ≡ numberKind → ⊥) ⌝ }
         ensures shows { λ r. ⌜ viewApplied r ≡ change C.push v (viewField self) ⌝ }
         ensures form { λ r. ⌜ (fieldForm self ≡ true → fieldForm (r .field) ≡ true) ⌝ }
         ensures exact { λ r. ⌜ Exact self r ⌝ }
@@ -227,7 +227,7 @@ impl Field {
 
     // v put last where it is no member yet.
     fn add(self, v: i32) -> Applied
-        requires { ⌜ (self .kind ≡ 1 → ⊥) ⌝ }
+        requires { ⌜ (self .kind ≡ numberKind → ⊥) ⌝ }
         ensures shows { λ r. ⌜ viewApplied r ≡ change C.add v (viewField self) ⌝ }
         ensures form { λ r. ⌜ (fieldForm self ≡ true → fieldForm (r .field) ≡ true) ⌝ }
         ensures exact { λ r. ⌜ Exact self r ⌝ }
@@ -243,7 +243,7 @@ impl Field {
 
     // The first member that equals v taken out.
     fn pull(self, v: i32) -> Applied
-        requires { ⌜ (self .kind ≡ 1 → ⊥) ⌝ }
+        requires { ⌜ (self .kind ≡ numberKind → ⊥) ⌝ }
         ensures shows { λ r. ⌜ viewApplied r ≡ change C.pull v (viewField self) ⌝ }
         ensures form { λ r. ⌜ (fieldForm self ≡ true → fieldForm (r .field) ≡ true) ⌝ }
         ensures exact { λ r. ⌜ Exact self r ⌝ }

@@ -6,8 +6,8 @@ use mathlib.Core.Bool.{Bool, true, false, cond, _&&_, _||_}
 use mathlib.Core.Logic.{_⊎_, inl, inr}
 use mathlib.Core.List.{List, [], _∷_, map}
 use lib.ListN.{length, getD, set, drop, replicate, getD-replicate, List·getD-eq-default}
-use lib.Dec.{eqb}
-use borrow.Author.Tests.{eq-eqb, ne-eqb}
+use lib.Dec.{eqb, ltb}
+use borrow.Author.Tests.{eq-eqb, ne-eqb, lt-ltb, le-ltb}
 use Rattle.rules.specs.Lists.{any, all, override}
 use Rattle.rules.specs.Limits.{keyCount}
 use Rattle.rules.specs.Values as S
@@ -114,9 +114,12 @@ module _ (t : Keys) (l : length (t .all) ≡ 32) where
   unfolding keysForm
   key-form n d h f = array-at 32 keyForm (t .all) n d h f
 
-  pub keys-with : (n : ℕ) (k : Key) → n < keyCount → viewKeys (record { all = set (t .all) n k }) ≡ override (viewKeys t) n (viewKey k)
+  pub keys-with : (n : ℕ) (k : Key) → n < 32 → viewKeys (record { all = set (t .all) n k }) ≡ cond (ltb n keyCount) (override (viewKeys t) n (viewKey k)) (viewKeys t)
   unfolding viewKeys
-  keys-with n k h = set-index viewKey [] (t .all) n k (omega arith)
+  keys-with n k h = rw (lt-ltb n 32 h) (set-index viewKey [] (t .all) n k (omega arith))
+
+  pub keys-past : (n : ℕ) (k : Key) → 32 ≤ n → viewKeys t ≡ cond (ltb n keyCount) (override (viewKeys t) n (viewKey k)) (viewKeys t)
+  keys-past n k h = rw (le-ltb n 32 h)
 
   pub with-form : (n : ℕ) (k : Key) → keysForm t ≡ true → keyForm k ≡ true → keysForm (record { all = set (t .all) n k }) ≡ true
   unfolding keysForm

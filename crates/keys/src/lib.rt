@@ -1,8 +1,9 @@
 // Places, keys of one to four places, and the table of keys.
 ghost use mathlib.Core.Path.{_≡_};
-ghost use mathlib.Core.Bool.{true};
+ghost use mathlib.Core.Bool.{true, cond};
 ghost use mathlib.Core.List.{[]};
-ghost use Prim.Native.Nat.{ℕ, _<_, _+_};
+ghost use Prim.Native.Nat.{ℕ};
+ghost use lib.Dec.{ltb};
 ghost use lib.ListN.{length, getD, drop};
 ghost use Rattle.rules.specs.Limits.{placeLimit, keyCount};
 ghost use Rattle.rules.specs.Lists.{any, isEmpty, pushed, override};
@@ -183,7 +184,7 @@ impl Key {
     }
 }
 
-// The 32 keys.
+// The keys by their numbers.
 pub struct Keys {
     pub all: [Key; Keys::LIMIT],
 }
@@ -212,9 +213,9 @@ impl Keys {
         self.all[at]
     }
 
-    // Another key of a number.
+    // Another key of a number, if there is such a number.
     pub fn with(self, k: u8, key: Key) -> Self
-        ensures shows { λ r. ⌜ (k < keyCount → viewKeys r ≡ override (viewKeys self) k (viewKey key)) ⌝ }
+        ensures shows { λ r. ⌜ viewKeys r ≡ cond (ltb k keyCount) (override (viewKeys self) k (viewKey key)) (viewKeys self) ⌝ }
         ensures form { λ r. ⌜ (keysForm self ≡ true → keyForm key ≡ true → keysForm r ≡ true) ⌝ }
     {
         let at = k as usize;

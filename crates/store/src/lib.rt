@@ -2,6 +2,8 @@
 ghost use mathlib.Core.Path.{_≡_};
 ghost use mathlib.Core.Bool.{true, cond};
 ghost use mathlib.Core.List.{[], _∷_};
+ghost use Prim.Native.Nat.{_*_};
+ghost use Rattle.rules.specs.Limits.{documentCount, fieldCount};
 ghost use Rattle.rules.specs.Values.{absent, inRange};
 ghost use Rattle.rules.specs.Changes.{follow};
 ghost use Rattle.keys.specs.View.{viewPlace};
@@ -13,14 +15,14 @@ use changes::Update;
 use field::Field;
 use keys::Place;
 
-// Field f of document d stands at 4 d + f.
+// The fields of a document stand side by side, and the documents in their order.
 pub struct Store {
     pub fields: [Field; Store::LIMIT],
 }
 
 // Where a place's field stands, past the end if there is no such place.
 fn index_of(q: Place) -> usize
-    ensures { λ r. ⌜ r ≡ cond (inRange (viewPlace q)) (indexOf (viewPlace q)) 256 ⌝ }
+    ensures { λ r. ⌜ r ≡ cond (inRange (viewPlace q)) (indexOf (viewPlace q)) (documentCount * fieldCount) ⌝ }
 {
     let document = q.document as usize;
     let field = q.field as usize;
@@ -38,7 +40,7 @@ impl Store {
 
     pub const FIELDS: usize = 4;
 
-    pub const LIMIT: usize = 256;
+    pub const LIMIT: usize = Store::DOCUMENTS * Store::FIELDS;
 
     pub fn empty() -> Self
         ensures shows { λ r. ⌜ viewStore r ≡ (λ q. absent) ⌝ }

@@ -6,8 +6,8 @@ use mathlib.Core.Bool.{Bool, true, false, not, cond, _&&_, _||_}
 use mathlib.Core.List.{List, [], _∷_, map}
 use lib.ListN.{length, getD, set, length-map, List·getD-map}
 use lib.Seq.{take-all}
-use lib.Dec.{eqb}
-use borrow.Author.Tests.{eqb-true, eqb-false}
+use lib.Dec.{eqb, ltb}
+use borrow.Author.Tests.{lt-ltb, le-ltb}
 use Rattle.rules.specs.Limits.{workerCount}
 use Rattle.rules.specs.Lists.{any, all, from, override, span, upto}
 use Rattle.rules.specs.Tables as M
@@ -73,9 +73,12 @@ module _ (t : Hands) (l : length (t .all) ≡ 4) where
   unfolding handsForm
   hand-form w d h f = array-at 4 handForm (t .all) w d h f
 
-  pub hands-with : (w : ℕ) (h : Hand) → w < workerCount → viewHands (record { all = set (t .all) w h }) ≡ override (viewHands t) w (viewHand h)
+  pub hands-with : (w : ℕ) (h : Hand) → w < 4 → viewHands (record { all = set (t .all) w h }) ≡ cond (ltb w workerCount) (override (viewHands t) w (viewHand h)) (viewHands t)
   unfolding viewHands
-  hands-with w h k = set-index viewHand M.empty (t .all) w h (omega arith)
+  hands-with w h k = rw (lt-ltb w 4 k) (set-index viewHand M.empty (t .all) w h (omega arith))
+
+  pub hands-past : (w : ℕ) (h : Hand) → 4 ≤ w → viewHands t ≡ cond (ltb w workerCount) (override (viewHands t) w (viewHand h)) (viewHands t)
+  hands-past w h k = rw (le-ltb w 4 k)
 
   pub with-form : (w : ℕ) (h : Hand) → handsForm t ≡ true → handForm h ≡ true → handsForm (record { all = set (t .all) w h }) ≡ true
   unfolding handsForm

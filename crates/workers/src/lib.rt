@@ -2,7 +2,8 @@
 ghost use mathlib.Core.Path.{_≡_};
 ghost use mathlib.Core.Bool.{true, false, cond};
 ghost use mathlib.Core.Option.{some};
-ghost use Prim.Native.Nat.{ℕ, _<_};
+ghost use Prim.Native.Nat.{ℕ};
+ghost use lib.Dec.{ltb};
 ghost use Rattle.rules.specs.Limits.{workerCount};
 ghost use Rattle.rules.specs.Lists.{override};
 ghost use Rattle.rules.specs.Tables.{empty, holds, full, replied, handed, inHand, anyHand, idle, leased, isLeased, ownedBy};
@@ -208,9 +209,9 @@ impl Hands {
         self.all[w]
     }
 
-    // Another hand of a worker.
+    // Another hand of a worker, if there is such a worker.
     pub fn with(self, worker: u8, h: Hand) -> Self
-        ensures shows { λ r. ⌜ (worker < workerCount → viewHands r ≡ override (viewHands self) worker (viewHand h)) ⌝ }
+        ensures shows { λ r. ⌜ viewHands r ≡ cond (ltb worker workerCount) (override (viewHands self) worker (viewHand h)) (viewHands self) ⌝ }
         ensures form { λ r. ⌜ (handsForm self ≡ true → handForm h ≡ true → handsForm r ≡ true) ⌝ }
     {
         let w = worker as usize;

@@ -1,7 +1,6 @@
 -- `Keys::with` meets its contract.
-use native.Mathlib.Omega.{arith}
 use Rattle.lists.proofs.Loops.{length-mapped}
-use Rattle.keys.proofs.KeyLaws.{keys-with, with-form}
+use Rattle.keys.proofs.KeyLaws.{keys-with, keys-past, with-form}
 use borrow.Author.Needs.{needs}
 use Rattle.keys.proofs.Keys.with.Statement.{statement}
 use Rattle.keys.proofs.Keys.with.Tie as tie
@@ -9,7 +8,7 @@ use Rattle.keys.proofs.Keys.with.Reads as reads
 use Rattle.keys.proofs.Keys.with.Lts as lts
 
 returns : tie.Need-returns
-returns c = (λ h. absurd (omega arith), λ f g. f)
+returns c = (search (keys-past, length-mapped, needs), λ f g. f)
 
 mul-key : tie.Need-mul-key
 mul-key c = search needs

@@ -1,7 +1,6 @@
 -- `Hands::with` meets its contract.
-use native.Mathlib.Omega.{arith}
 use Rattle.lists.proofs.Loops.{length-mapped}
-use Rattle.workers.proofs.HandLaws.{hands-with, with-form}
+use Rattle.workers.proofs.HandLaws.{hands-with, hands-past, with-form}
 use borrow.Author.Needs.{needs}
 use Rattle.workers.proofs.Hands.with.Statement.{statement}
 use Rattle.workers.proofs.Hands.with.Tie as tie
@@ -9,7 +8,7 @@ use Rattle.workers.proofs.Hands.with.Reads as reads
 use Rattle.workers.proofs.Hands.with.Lts as lts
 
 returns : tie.Need-returns
-returns c = (λ h. absurd (omega arith), λ f g. f)
+returns c = (search (hands-past, length-mapped, needs), λ f g. f)
 
 mul-h : tie.Need-mul-h
 mul-h c = search needs
