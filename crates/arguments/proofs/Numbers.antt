@@ -74,3 +74,13 @@ module _ (z : ℤ) (w : SFits w64 z) (k r : ℕ) (e : r ≡ cond (below (held z)
 
   pub inside-is : r < k → natOf z ≡ r
   inside-is l = sym (at ∙ (found z k (rw at at l)) .1)
+
+  pub index-is : below z k ≡ true → natOf z ≡ r
+  index-is h = sym (at ∙ rw h refl)
+
+  pub index-lt : below z k ≡ true → ltb r k ≡ true
+  index-lt h = go z h (at ∙ rw h refl)
+    where
+      go : (y : ℤ) → below y k ≡ true → r ≡ natOf y → ltb r k ≡ true
+      go (pos n) b q = ap (λ (m : ℕ). ltb m k) q ∙ b
+      go (negsuc n) b q = absurd (true≢false (sym b))

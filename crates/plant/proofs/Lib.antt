@@ -1,3 +1,4 @@
 -- Laws of the plant.
 pub mod PlantLaws
+pub mod Formed
 pub mod Unique

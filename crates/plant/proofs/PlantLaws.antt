@@ -7,18 +7,13 @@ use Rattle.rules.specs.Tables as M
 use Rattle.rules.specs.Kept.{kept}
 use Rattle.rules.proofs.KeptTest.{setup-is-kept}
 use Rattle.rules.proofs.Laws.{both}
-use Rattle.store.specs.View.{viewStore, storeForm}
+use Rattle.store.specs.View.{viewStore}
 use Rattle.keys.specs.View.{viewKeys}
-use Rattle.keys.specs.Form.{keysForm}
 use Rattle.cache.specs.View.{viewCache}
-use Rattle.cache.specs.Form.{cacheForm}
 use Rattle.sessions.specs.View.{viewSessions}
-use Rattle.sessions.specs.Form.{sessionsForm}
 use Rattle.buffer.specs.View.{viewBuffer}
-use Rattle.buffer.specs.Form.{bufferForm}
-use Rattle.rows.specs.View.{viewRows, rowsForm}
+use Rattle.rows.specs.View.{viewRows}
 use Rattle.workers.specs.View.{viewHands, viewQueue}
-use Rattle.workers.specs.Form.{handsForm, queueForm}
 use Rattle.plant.specs.View.{viewPlant, plantForm, keptPlant}
 use Rattle.plant.specs.declared.Plant.{Plant}
 
@@ -29,12 +24,6 @@ module _ (p : Plant) where
       → p .clock ≡ 0 → p .near ≡ true → p .next ≡ 1 → viewPlant p ≡ M.setup
   unfolding viewPlant M.setup
   empty-shows s k c l b r h q t n x = λ i. record { store = s i; keys = k i; cache = c i; slots = l i; buffer = b i; rows = r i; hands = h i; queue = q i; clock = t i; near = n i; next = x i }
-
-  pub empty-form :
-      storeForm (p .store) ≡ true → keysForm (p .keys) ≡ true → cacheForm (p .cache) ≡ true → sessionsForm (p .sessions) ≡ true
-      → bufferForm (p .buffer) ≡ true → rowsForm (p .rows) ≡ true → handsForm (p .hands) ≡ true → queueForm (p .queue) ≡ true → plantForm p ≡ true
-  unfolding plantForm
-  empty-form s k c l b r h q = rw (s, k, c, l, b, r, h, q)
 
   pub empty-kept : viewPlant p ≡ M.setup → plantForm p ≡ true → keptPlant p ≡ true
   unfolding keptPlant

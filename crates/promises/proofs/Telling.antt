@@ -4,12 +4,12 @@ use mathlib.Core.Bool.{true, false, true≢false}
 use mathlib.Core.Option.{Option, none, some}
 use mathlib.Core.List.{List}
 use lib.IntN.{ℤ}
-use Rattle.rules.specs.Refusals.{Refusal, first}
+use Rattle.rules.specs.Refusals.{Refusal, first, endsSession}
 use Rattle.rules.specs.Tables as M
 use Rattle.rules.specs.Calls.{Call, Pick, Answer, refused, fine}
 use Rattle.rules.specs.Conditions.{conditions}
-use Rattle.rules.specs.Step.{accepted, afterRefusal, settle, step}
-use Rattle.rules.proofs.Laws.{NoneMet, none-met}
+use Rattle.rules.specs.Step.{accepted, sessionOf, settle, step}
+use Rattle.rules.proofs.Laws.{NoneMet, none-met, byCase}
 use Rattle.rules.proofs.Steps.{step-fine, refused-is}
 use Rattle.answers.specs.View.{isRefused}
 
@@ -35,7 +35,7 @@ module _ (c : Call) (lent : List ℤ) (pick : Pick) (p : M.Plant) where
   pub left-accepted : NoneMet (conditions c lent p) → accepted c lent pick p .plant ≡ step c lent pick p .plant
   left-accepted m = ap (λ r. r .plant) (sym (step-fine c lent pick p m))
 
-  -- a refusal of a call in which no session can end
-  pub left-refused : (a : Answer) → a ≡ step c lent pick p .answer → isRefused a ≡ true → ((r : Refusal) → afterRefusal c r p ≡ p) → p ≡ step c lent pick p .plant
-  left-refused (refused r) e h s = sym (ap (λ x. x .plant) (refused-is c lent pick p r (sym e)) ∙ s r)
+  -- a refusal of a call that has no session
+  pub left-refused : (a : Answer) → a ≡ step c lent pick p .answer → isRefused a ≡ true → sessionOf c ≡ none → p ≡ step c lent pick p .plant
+  left-refused (refused r) e h s = sym (ap (λ x. x .plant) (refused-is c lent pick p r (sym e)) ∙ byCase (endsSession r) (λ b. rw (b, s) refl) (λ b. rw b refl))
   left-refused (fine ns) e h s = absurd (true≢false (sym h))

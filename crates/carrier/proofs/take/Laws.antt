@@ -1,30 +1,42 @@
--- What take answers, one law for each way out.
+-- What take answers and leaves, one law for each way out.
 use mathlib.Core.Path.{_≡_, refl, sym, _∙_, ap}
 use mathlib.Core.Bool.{Bool, true, false, cond}
+use mathlib.Core.Option.{some}
 use mathlib.Core.List.{List, [], _∷_}
 use Prim.Native.Nat.{ℕ, _≤_, _<_}
+use lib.Dec.{ltb}
 use lib.IntN.{ℤ}
 use mir.Syntax.{w64}
 use mir.Val.{SFits}
+use borrow.Author.Tests.{not-false}
 use Rattle.rules.specs.Limits.{workerCount}
-use Rattle.rules.specs.Lists.{isEmpty}
+use Rattle.rules.specs.Lists.{isEmpty, override}
 use Rattle.rules.specs.Values.{below, natOf}
 use Rattle.rules.specs.Refusals.{outOfRange, wrongHand, queueLeased, nothingBuffered, _⇒_}
-use Rattle.rules.specs.Tables.{full, isLeased, oldest}
-use Rattle.rules.specs.Calls.{Take, Answer, refused, fine}
+use Rattle.rules.specs.Tables.{full, holds, isLeased, leased, oldest}
+use Rattle.rules.specs.Calls.{Take, refused, fine}
 use Rattle.rules.specs.Conditions.{conditions}
-use Rattle.rules.specs.Step.{step, accepted}
-use Rattle.promises.specs.Promise.{chosen, result}
-use Rattle.promises.proofs.Telling.{refuses, accepts}
-use Rattle.arguments.proofs.Numbers.{held, outside, inside, inside-is}
+use Rattle.rules.specs.Calls as C
+use Rattle.rules.specs.Effects.{taken}
+use Rattle.rules.specs.Step.{accepted}
+use Rattle.rules.proofs.Laws.{not-met}
+use Rattle.answers.specs.View.{viewAnswer, isRefused}
+use Rattle.answers.specs.declared.Answer.{Answer}
+use Rattle.promises.specs.Promise.{chosen, result, Leaves}
+use Rattle.promises.proofs.Telling.{refuses, accepts, none-held, left-accepted, left-refused}
+use Rattle.arguments.proofs.Numbers.{held, outside, inside, inside-is, index-is, index-lt}
 use Rattle.workers.specs.View.{viewHand, viewHands, viewQueue}
+use Rattle.workers.specs.Form.{handForm, handsForm, queueForm}
 use Rattle.workers.specs.declared.Hand.{Hand}
+use Rattle.workers.specs.declared.Hands.{Hands}
+use Rattle.workers.specs.declared.Queue.{Queue}
 use Rattle.buffer.specs.View.{viewBuffer}
-use Rattle.plant.specs.View.{viewPlant, keptPlant}
+use Rattle.plant.specs.View.{viewPlant, keptPlant, plantForm}
 use Rattle.plant.specs.declared.Plant.{Plant}
+use Rattle.plant.proofs.Formed.{form-parts, formed}
 
 module _ (p : Plant) (z : ℤ) (fits : SFits w64 z) (w : ℕ) (e : w ≡ cond (below (held z) workerCount) (natOf (held z)) workerCount) (lent : List ℤ) (kept : keptPlant p ≡ true) where
-  abbrev Answered : Answer → Type 0
+  abbrev Answered : C.Answer → Type 0
   Answered a = a ≡ result (Take z) lent p .answer
 
   pub out-of-range : workerCount ≤ w → Answered (refused outOfRange)
@@ -55,3 +67,26 @@ module _ (p : Plant) (z : ℤ) (fits : SFits w64 z) (w : ℕ) (e : w ≡ cond (b
         pub oldest-told : b ≡ false → (n : ℕ) → n ≡ oldest (viewBuffer (p .buffer)) → Answered (fine (n ∷ []))
         unfolding conditions viewPlant _⇒_ accepted
         oldest-told i n en = ap (λ (m : ℕ). fine (m ∷ [])) en ∙ accepts (Take z) lent (chosen (viewPlant p)) (viewPlant p) (rw (in-range, hand-is, g, sym eq, k, sym eb, i) refl)
+
+-- ── the plant left ──
+module _ (p : Plant) (z : ℤ) (a : Answer) (b : Bool) (eb : b ≡ isRefused (viewAnswer a)) where
+  pub turned-away : b ≡ true → Leaves (Take z) p a p
+  turned-away h kept lent ea = left-refused (Take z) lent (chosen (viewPlant p)) (viewPlant p) (viewAnswer a) ea (sym eb ∙ h) refl
+
+  module _ (h : b ≡ false) (fits : SFits w64 z) (w : ℕ) (e : w ≡ cond (below (held z) workerCount) (natOf (held z)) workerCount)
+      (n : ℕ) (en : n ≡ oldest (viewBuffer (p .buffer))) (hand : Hand) (eh : viewHand hand ≡ holds n false)
+      (hs : Hands) (ehs : viewHands hs ≡ cond (ltb w workerCount) (override (viewHands (p .hands)) w (viewHand hand)) (viewHands (p .hands)))
+      (q : Queue) (eq : viewQueue q ≡ leased (some w) (p .clock)) where
+    pub in-hand : Leaves (Take z) p a (record { store = p .store; keys = p .keys; cache = p .cache; sessions = p .sessions; buffer = p .buffer; rows = p .rows; hands = hs; queue = q; clock = p .clock; near = p .near; next = p .next })
+    unfolding conditions viewPlant accepted taken
+    in-hand kept lent ea =
+        let m = none-held (Take z) lent (chosen (viewPlant p)) (viewPlant p) (viewAnswer a) ea (sym eb ∙ h) in
+        let g : below z workerCount ≡ true = not-false (below z workerCount) (not-met _ outOfRange (m .0)) in
+        rw (ehs, index-lt z fits workerCount w e g, eh, en, eq, sym (index-is z fits workerCount w e g)) refl
+        ∙ left-accepted (Take z) lent (chosen (viewPlant p)) (viewPlant p) m
+
+    pub in-hand-form : (handsForm (p .hands) ≡ true → handForm hand ≡ true → handsForm hs ≡ true) → handForm hand ≡ true → queueForm q ≡ true → plantForm p ≡ true
+        → plantForm (record { store = p .store; keys = p .keys; cache = p .cache; sessions = p .sessions; buffer = p .buffer; rows = p .rows; hands = hs; queue = q; clock = p .clock; near = p .near; next = p .next }) ≡ true
+    in-hand-form fh ff fq f =
+        let x = form-parts p f in
+        formed _ (record { store = x .store; keys = x .keys; cache = x .cache; sessions = x .sessions; buffer = x .buffer; rows = x .rows; hands = fh (x .hands) ff; queue = fq })

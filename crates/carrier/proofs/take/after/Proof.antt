@@ -1,19 +1,14 @@
 -- `take::after` meets its contract.
+use Rattle.carrier.proofs.take.Laws.{turned-away, in-hand, in-hand-form}
 use borrow.Author.Needs.{needs}
 use Rattle.carrier.proofs.take.after.Statement.{statement}
 use Rattle.carrier.proofs.take.after.Tie as tie
-use Rattle.answers.proofs.Answer.is_refused.Reads as is-refused-reads
-use Rattle.arguments.proofs.index.Reads as index-reads
-use Rattle.buffer.proofs.Buffer.oldest.Reads as oldest-reads
-use Rattle.workers.proofs.Hand.holding.Reads as holding-reads
-use Rattle.workers.proofs.Hands.with.Reads as with-reads
-use Rattle.workers.proofs.Queue.taken.Reads as taken-reads
 
 is-refused-requires : tie.Need-is-refused-requires
 is-refused-requires c κs = search needs
 
 returns : tie.Need-returns
-returns c = ?
+returns c = (search (turned-away, needs), λ f. f)
 
 cast-index : tie.Need-cast-index
 cast-index c = search needs
@@ -34,7 +29,7 @@ taken-requires : tie.Need-taken-requires
 taken-requires c κs = search needs
 
 returns-2 : tie.Need-returns-2
-returns-2 c = ?
+returns-2 c = search (in-hand, in-hand-form, needs)
 
 pub after-spec : {M : Type 1} → statement M
 after-spec =
