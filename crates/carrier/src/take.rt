@@ -33,7 +33,7 @@ pub fn answer(p: Plant, worker: i64) -> Answer
     Answer::Taken(p.buffer.oldest())
 }
 
-pub fn after(p: Plant, worker: i64, a: Answer) -> Plant
+pub fn after(mut p: Plant, worker: i64, a: Answer) -> Plant
     ensures shows { λ r. ⌜ Leaves (Take worker) p a r ⌝ }
     ensures form { λ r. ⌜ (plantForm p ≡ true → plantForm r ≡ true) ⌝ }
 {
@@ -44,8 +44,7 @@ pub fn after(p: Plant, worker: i64, a: Answer) -> Plant
     let now = p.clock;
     let number = p.buffer.oldest();
     let hand = Hand::holding(number);
-    let mut q = p;
-    q.hands = p.hands.with(w, hand);
-    q.queue = Queue::taken(w, now);
-    q
+    p.hands = p.hands.with(w, hand);
+    p.queue = Queue::taken(w, now);
+    p
 }
