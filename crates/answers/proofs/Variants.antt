@@ -1,14 +1,15 @@
 -- What the arms of a match on an enum know of it: the numbers of its variants.
-use mathlib.Core.Path.{_≡_, refl}
-use mathlib.Core.Bool.{true, false}
+use mathlib.Core.Path.{_≡_, refl, sym}
+use mathlib.Core.Bool.{true, false, true≢false}
 use Prim.Native.Nat.{ℕ}
 use mathlib.Core.List.{List, [], _∷_}
 use types.Run.{OneOf, miss}
 use denote.Enum.Declared.{tagOf}
 use Rattle.rules.specs.Refusals.{endsSession}
+use Rattle.rules.specs.Calls as C
 use Rattle.answers.proofs.Refusal.{the-type as r-type}
 use Rattle.answers.proofs.Answer.{the-type as a-type}
-use Rattle.answers.specs.View.{viewRefusal, viewAnswer, isRefused}
+use Rattle.answers.specs.View.{viewRefusal, viewAnswer, isRefused, isEnding}
 use Rattle.answers.specs.declared.Refusal.{Refusal}
 use Rattle.answers.specs.declared.Refusal.the-variants as refusal
 use Rattle.answers.specs.declared.Answer.{Answer}
@@ -85,3 +86,7 @@ refused-not (answer.Taken n) h = refl
 refused-not (answer.Applied r) h = refl
 refused-not (answer.Deleted b) h = refl
 refused-not (answer.Swept n) h = refl
+
+pub fine-stays : (a : C.Answer) → false ≡ isRefused a → false ≡ isEnding a
+fine-stays (C.refused r) h = absurd (true≢false (sym h))
+fine-stays (C.fine ns) h = refl

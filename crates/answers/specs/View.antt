@@ -66,3 +66,8 @@ viewAnswer (Swept n) = C.fine (n ∷ [])
 abbrev pub isRefused : C.Answer → Bool
 isRefused (C.refused r) = true
 isRefused (C.fine ns) = false
+
+-- a refusal that ends the session that met it
+abbrev pub isEnding : C.Answer → Bool
+isEnding (C.refused r) = R.endsSession r
+isEnding (C.fine ns) = false

@@ -1,7 +1,7 @@
 // What a call answers: a refusal, or what it tells. `specs/View` has the paper's numbers of each.
 ghost use mathlib.Core.Path.{_≡_};
 ghost use Rattle.rules.specs.Refusals.{endsSession};
-ghost use Rattle.answers.specs.View.{viewRefusal, viewAnswer, isRefused};
+ghost use Rattle.answers.specs.View.{viewRefusal, viewAnswer, isRefused, isEnding};
 
 pub enum Refusal {
     OutOfRange,
@@ -75,11 +75,22 @@ impl Answer {
             false
         }
     }
+
+    // The session that called has ended by it.
+    pub fn ends_session(self) -> bool
+        ensures { λ r. ⌜ r ≡ isEnding (viewAnswer self) ⌝ }
+    {
+        if let Answer::Refused(r) = self {
+            r.ends_session()
+        } else {
+            false
+        }
+    }
 }
 
 impl Refusal {
     // The session that met it ends.
-    pub fn ends_session(self) -> bool
+    fn ends_session(self) -> bool
         ensures { λ r. ⌜ r ≡ endsSession (viewRefusal self) ⌝ }
     {
         match self {

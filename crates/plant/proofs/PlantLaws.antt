@@ -5,8 +5,9 @@ use mathlib.Core.List.{[]}
 use Rattle.rules.specs.Values as S
 use Rattle.rules.specs.Tables as M
 use Rattle.rules.specs.Kept.{kept}
-use Rattle.rules.proofs.KeptTest.{setup-is-kept}
-use Rattle.rules.proofs.Laws.{both}
+use Rattle.rules.proofs.KeptTest.{setup-is-kept, kept-iff}
+use Rattle.rules.proofs.KeptParts.{Kept}
+use Rattle.rules.proofs.Laws.{both, and-true}
 use Rattle.store.specs.View.{viewStore}
 use Rattle.keys.specs.View.{viewKeys}
 use Rattle.cache.specs.View.{viewCache}
@@ -28,3 +29,7 @@ module _ (p : Plant) where
   pub empty-kept : viewPlant p ≡ M.setup → plantForm p ≡ true → keptPlant p ≡ true
   unfolding keptPlant
   empty-kept e f = both _ _ f (ap kept e ∙ setup-is-kept)
+
+  pub kept-parts : keptPlant p ≡ true → Kept (viewPlant p)
+  unfolding keptPlant
+  kept-parts k = kept-iff (viewPlant p) .0 (and-true (plantForm p) (kept (viewPlant p)) k .1)

@@ -1,2 +1,4 @@
 -- Laws that the proofs of the calls use.
 pub mod Telling
+pub mod Leaving
+pub mod Numbers

@@ -4,14 +4,14 @@ use mathlib.Core.Bool.{true, false, true≢false}
 use mathlib.Core.Option.{Option, none, some}
 use mathlib.Core.List.{List}
 use lib.IntN.{ℤ}
-use Rattle.rules.specs.Refusals.{Refusal, first, endsSession}
+use Rattle.rules.specs.Refusals.{Refusal, first}
 use Rattle.rules.specs.Tables as M
 use Rattle.rules.specs.Calls.{Call, Pick, Answer, refused, fine}
 use Rattle.rules.specs.Conditions.{conditions}
-use Rattle.rules.specs.Step.{accepted, sessionOf, settle, step}
+use Rattle.rules.specs.Step.{accepted, sessionOf, ending, settle, step}
 use Rattle.rules.proofs.Laws.{NoneMet, none-met, byCase}
 use Rattle.rules.proofs.Steps.{step-fine, refused-is}
-use Rattle.answers.specs.View.{isRefused}
+use Rattle.answers.specs.View.{isRefused, isEnding}
 
 module _ (c : Call) (lent : List ℤ) (pick : Pick) (p : M.Plant) where
   -- ── from the conditions ──
@@ -35,7 +35,15 @@ module _ (c : Call) (lent : List ℤ) (pick : Pick) (p : M.Plant) where
   pub left-accepted : NoneMet (conditions c lent p) → accepted c lent pick p .plant ≡ step c lent pick p .plant
   left-accepted m = ap (λ r. r .plant) (sym (step-fine c lent pick p m))
 
+  -- a refusal that ends no session, and one that ends the caller's
+  pub left-stays : (a : Answer) → a ≡ step c lent pick p .answer → isRefused a ≡ true → isEnding a ≡ false → p ≡ step c lent pick p .plant
+  left-stays (refused r) e h s = sym (ap (λ x. x .plant) (refused-is c lent pick p r (sym e)) ∙ rw s refl)
+  left-stays (fine ns) e h s = absurd (true≢false (sym h))
+
+  pub left-ended : (a : Answer) → a ≡ step c lent pick p .answer → isEnding a ≡ true → ending (sessionOf c) p ≡ step c lent pick p .plant
+  left-ended (refused r) e s = sym (ap (λ x. x .plant) (refused-is c lent pick p r (sym e)) ∙ rw s refl)
+  left-ended (fine ns) e s = absurd (true≢false (sym s))
+
   -- a refusal of a call that has no session
   pub left-refused : (a : Answer) → a ≡ step c lent pick p .answer → isRefused a ≡ true → sessionOf c ≡ none → p ≡ step c lent pick p .plant
-  left-refused (refused r) e h s = sym (ap (λ x. x .plant) (refused-is c lent pick p r (sym e)) ∙ byCase (endsSession r) (λ b. rw (b, s) refl) (λ b. rw b refl))
-  left-refused (fine ns) e h s = absurd (true≢false (sym h))
+  left-refused a e h s = byCase (isEnding a) (λ b. rw (sym (left-ended a e b), s) refl) (left-stays a e h)

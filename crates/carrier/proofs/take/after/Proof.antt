@@ -1,5 +1,6 @@
 -- `take::after` meets its contract.
-use Rattle.carrier.proofs.take.Laws.{turned-away, in-hand, in-hand-form}
+use Rattle.carrier.proofs.take.Laws.{in-hand, in-hand-form}
+use Rattle.promises.proofs.Leaving.{turned-away}
 use borrow.Author.Needs.{needs}
 use Rattle.carrier.proofs.take.after.Statement.{statement}
 use Rattle.carrier.proofs.take.after.Tie as tie

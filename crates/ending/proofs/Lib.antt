@@ -1,0 +1,2 @@
+-- Laws of a session's end.
+pub mod Laws

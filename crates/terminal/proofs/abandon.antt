@@ -1,0 +1,2 @@
+-- Laws of abandon.
+mod Laws

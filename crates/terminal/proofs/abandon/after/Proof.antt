@@ -1,0 +1,40 @@
+-- `abandon::after` meets its contract.
+use Rattle.terminal.proofs.abandon.Laws.{frees}
+use Rattle.promises.proofs.Leaving.{ends, stays}
+use mathlib.Core.Path.{refl}
+use borrow.Author.Needs.{needs}
+use Rattle.terminal.proofs.abandon.after.Statement.{statement}
+use Rattle.terminal.proofs.abandon.after.Tie as tie
+
+ends-session-requires : tie.Need-ends-session-requires
+ends-session-requires c κs = search needs
+
+ended-requires : tie.Need-ended-requires
+ended-requires c κs = search needs
+
+returns : tie.Need-returns
+returns c = (ends _ _ (c .before .before .before .args .a) _ (c .before .before .ends-session .ensures) (c .before .if1 .taken) _ (c .before .before .before .fits .session) refl _ (c .ended .ensures .0), c .ended .ensures .1)
+
+is-refused-requires : tie.Need-is-refused-requires
+is-refused-requires c κs = search needs
+
+returns-2 : tie.Need-returns-2
+returns-2 c = search (stays, needs)
+
+ended-requires-2 : tie.Need-ended-requires-2
+ended-requires-2 c κs = search needs
+
+returns-3 : tie.Need-returns-3
+returns-3 c = search (frees, c .ended2 .ensures .0, needs)
+
+pub after-spec : {M : Type 1} → statement M
+after-spec =
+    tie.close
+    (tie.spec
+    ends-session-requires
+    ended-requires
+    returns
+    is-refused-requires
+    returns-2
+    ended-requires-2
+    returns-3)

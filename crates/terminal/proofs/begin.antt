@@ -1,0 +1,2 @@
+-- Laws of begin.
+mod Laws

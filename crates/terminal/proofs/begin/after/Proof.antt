@@ -1,0 +1,32 @@
+-- `begin::after` meets its contract.
+use Rattle.terminal.proofs.begin.Laws.{not-spent, opens, opens-form}
+use Rattle.promises.proofs.Leaving.{turned-away}
+use borrow.Author.Needs.{needs}
+use Rattle.terminal.proofs.begin.after.Statement.{statement}
+use Rattle.terminal.proofs.begin.after.Tie as tie
+
+is-refused-requires : tie.Need-is-refused-requires
+is-refused-requires c κs = search needs
+
+returns : tie.Need-returns
+returns c = search (turned-away, needs)
+
+returns-2 : tie.Need-returns-2
+returns-2 c = search (not-spent, needs)
+
+cast-begun : tie.Need-cast-begun
+cast-begun c = search needs
+
+begun-requires : tie.Need-begun-requires
+begun-requires c κs = search needs
+
+add-p : tie.Need-add-p
+add-p c = search needs
+
+returns-3 : tie.Need-returns-3
+returns-3 c = search (opens, opens-form, needs)
+
+pub after-spec : {M : Type 1} → statement M
+after-spec =
+    tie.close
+    (tie.spec is-refused-requires returns returns-2 cast-begun begun-requires add-p returns-3)

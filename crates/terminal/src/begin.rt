@@ -1,0 +1,60 @@
+// Begin: a new session gets the next number, and a slot that is free or whose session is doomed.
+ghost use mathlib.Core.Path.{_≡_};
+ghost use mathlib.Core.Bool.{true, not, _&&_};
+ghost use mathlib.Core.List.{List};
+ghost use lib.Dec.{leb};
+ghost use lib.IntN.{ℤ};
+ghost use lib.ListN.{length};
+ghost use Rattle.rules.specs.Limits.{slotLimit};
+ghost use Rattle.rules.specs.Lists.{any};
+ghost use Rattle.rules.specs.Calls.{Begin};
+ghost use Rattle.sessions.specs.View.{viewSessions};
+ghost use Rattle.plant.specs.View.{plantForm};
+ghost use Rattle.promises.specs.Promise.{Answers, Leaves};
+use answers::Answer;
+use answers::Refusal;
+use plant::Plant;
+use sessions::Sessions;
+
+const LAST_SESSION: u64 = 4294967295;
+
+// Every slot is taken, and by a session that is not doomed.
+fn is_full(t: Sessions) -> bool
+    ensures { λ r. ⌜ r ≡ leb slotLimit (length (viewSessions t)) && not (any (λ s. (s .session) .doomed) (viewSessions t)) ⌝ }
+{
+    let taken = t.len() as usize;
+    if taken < Sessions::LIMIT {
+        return false;
+    }
+    !t.any_doomed()
+}
+
+pub fn answer(p: Plant) -> Answer
+    ensures { λ r. ⌜ ((lent : List ℤ) → Answers Begin lent p r) ⌝ }
+{
+    let number = p.next;
+    if LAST_SESSION < number {
+        return Answer::Refused(Refusal::NumbersSpent);
+    }
+    if is_full(p.sessions) {
+        return Answer::Refused(Refusal::SlotsFull);
+    }
+    Answer::Begun(number as u32)
+}
+
+pub fn after(mut p: Plant, a: Answer) -> Plant
+    ensures shows { λ r. ⌜ Leaves Begin p a r ⌝ }
+    ensures form { λ r. ⌜ (plantForm p ≡ true → plantForm r ≡ true) ⌝ }
+{
+    let number = p.next;
+    if a.is_refused() {
+        return p;
+    }
+    if LAST_SESSION < number {
+        return p;
+    }
+    let now = p.clock;
+    p.sessions = p.sessions.begun(number as u32, now);
+    p.next = number + 1;
+    p
+}
