@@ -1,1 +1,2 @@
 -- Laws of the workers' calls.
+mod Worker

@@ -24,7 +24,7 @@ use Rattle.answers.specs.View.{viewAnswer, isRefused}
 use Rattle.answers.specs.declared.Answer.{Answer}
 use Rattle.promises.specs.Promise.{chosen, result, Leaves}
 use Rattle.promises.proofs.Telling.{refuses, accepts, none-held, left-accepted}
-use Rattle.arguments.proofs.Numbers.{held, outside, inside, inside-is, index-is, index-lt}
+use Rattle.arguments.proofs.Numbers.{held, outside, inside, index-is, index-lt}
 use Rattle.workers.specs.View.{viewHand, viewHands, viewQueue}
 use Rattle.workers.specs.Form.{handForm, handsForm, queueForm}
 use Rattle.workers.specs.declared.Hand.{Hand}
@@ -33,7 +33,7 @@ use Rattle.workers.specs.declared.Queue.{Queue}
 use Rattle.buffer.specs.View.{viewBuffer}
 use Rattle.plant.specs.View.{viewPlant, keptPlant, plantForm}
 use Rattle.plant.specs.declared.Plant.{Plant}
-use Rattle.plant.proofs.Formed.{form-parts, formed}
+use Rattle.carrier.proofs.Worker.{hand-at, left-form}
 
 module _ (p : Plant) (z : ℤ) (fits : SFits w64 z) (w : ℕ) (e : w ≡ cond (below (held z) workerCount) (natOf (held z)) workerCount) (lent : List ℤ) (kept : keptPlant p ≡ true) where
   abbrev Answered : C.Answer → Type 0
@@ -48,7 +48,7 @@ module _ (p : Plant) (z : ℤ) (fits : SFits w64 z) (w : ℕ) (e : w ≡ cond (b
     in-range = inside z fits workerCount w e l
 
     hand-is : full (viewHands (p .hands) (natOf z)) ≡ f
-    hand-is = ap (λ (n : ℕ). full (viewHands (p .hands) n)) (inside-is z fits workerCount w e l) ∙ ap full (sym eh) ∙ sym ef
+    hand-is = ap full (hand-at (p .hands) z fits w e l h eh) ∙ sym ef
 
     pub hand-full : f ≡ true → Answered (refused wrongHand)
     unfolding conditions viewPlant _⇒_
@@ -84,6 +84,4 @@ module _ (p : Plant) (z : ℤ) (a : Answer) (b : Bool) (eb : b ≡ isRefused (vi
 
     pub in-hand-form : (handsForm (p .hands) ≡ true → handForm hand ≡ true → handsForm hs ≡ true) → handForm hand ≡ true → queueForm q ≡ true → plantForm p ≡ true
         → plantForm (record { store = p .store; keys = p .keys; cache = p .cache; sessions = p .sessions; buffer = p .buffer; rows = p .rows; hands = hs; queue = q; clock = p .clock; near = p .near; next = p .next }) ≡ true
-    in-hand-form fh ff fq f =
-        let x = form-parts p f in
-        formed _ (record { store = x .store; keys = x .keys; cache = x .cache; sessions = x .sessions; buffer = x .buffer; rows = x .rows; hands = fh (x .hands) ff; queue = fq })
+    in-hand-form fh ff fq = left-form p (p .buffer) hs q (λ f. f) (λ f. fh f ff) (λ f. fq)

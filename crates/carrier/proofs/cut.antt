@@ -1,0 +1,2 @@
+-- Laws of cut.
+mod Laws

@@ -1,0 +1,42 @@
+-- `cut::after` meets its contract.
+use Rattle.carrier.proofs.cut.Laws.{turned-away, emptied, emptied-form}
+use borrow.Author.Needs.{needs}
+use Rattle.carrier.proofs.cut.after.Statement.{statement}
+use Rattle.carrier.proofs.cut.after.Tie as tie
+
+is-refused-requires : tie.Need-is-refused-requires
+is-refused-requires c κs = search needs
+
+returns : tie.Need-returns
+returns c = (search (turned-away, needs), λ f. f)
+
+cast-index : tie.Need-cast-index
+cast-index c = search needs
+
+index-requires : tie.Need-index-requires
+index-requires c κs = search needs
+
+empty-requires : tie.Need-empty-requires
+empty-requires c κs = search needs
+
+with-requires : tie.Need-with-requires
+with-requires c κs = search needs
+
+orphaned-requires : tie.Need-orphaned-requires
+orphaned-requires c κs = search needs
+
+returns-2 : tie.Need-returns-2
+returns-2 c = search (emptied, emptied-form, needs)
+
+pub after-spec : {M : Type 1} → statement M
+after-spec =
+    tie.close
+    (tie.spec
+    is-refused-requires
+    returns
+    cast-index
+    index-requires
+    empty-requires
+    with-requires
+    orphaned-requires
+    returns-2)

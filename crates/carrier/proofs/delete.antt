@@ -1,0 +1,2 @@
+-- Laws of delete.
+mod Laws
