@@ -95,12 +95,12 @@ impl Key {
         ensures shows { λ r. ⌜ viewKey r ≡ pushed placeLimit (viewKey self) (viewPlace q) ⌝ }
         ensures form { λ r. ⌜ (keyForm self ≡ true → keyForm r ≡ true) ⌝ }
     {
-        let at = self.count as usize;
-        if Self::LIMIT <= at {
+        let end = self.count as usize;
+        if Self::LIMIT <= end {
             return self;
         }
         let mut t = self;
-        t.places[at] = q;
+        t.places[end] = q;
         t.count = self.count + 1;
         t
     }
@@ -206,11 +206,11 @@ impl Keys {
         ensures shows { λ r. ⌜ viewKey r ≡ viewKeys self k ⌝ }
         ensures form { λ r. ⌜ (keysForm self ≡ true → keyForm r ≡ true) ⌝ }
     {
-        let at = k as usize;
-        if Self::LIMIT <= at {
+        let number = k as usize;
+        if Self::LIMIT <= number {
             return Key::empty();
         }
-        self.all[at]
+        self.all[number]
     }
 
     // Another key of a number, if there is such a number.
@@ -219,11 +219,11 @@ impl Keys {
         ensures form { λ r. ⌜ (keysForm self ≡ true → keyForm key ≡ true → keysForm r ≡ true) ⌝ }
     {
         let at = k as usize;
+        let mut keys = self;
         if Self::LIMIT <= at {
-            return self;
+            return keys;
         }
-        let mut t = self;
-        t.all[at] = key;
-        t
+        keys.all[at] = key;
+        keys
     }
 }
