@@ -2,7 +2,7 @@
 ghost use mathlib.Core.Path.{_≡_};
 ghost use mathlib.Core.Bool.{true, cond};
 ghost use mathlib.Core.List.{[]};
-ghost use Prim.Native.Nat.{ℕ};
+ghost use Prim.Native.Nat.{ℕ, _≤_};
 ghost use lib.Dec.{ltb};
 ghost use lib.ListN.{length, getD, drop};
 ghost use Rattle.rules.specs.Limits.{placeLimit, keyCount};
@@ -105,11 +105,13 @@ impl Key {
         t
     }
 
-    pub fn has(self, q: Place) -> bool
-        ensures { λ r. ⌜ r ≡ any (samePlace (viewPlace q)) (viewKey self) ⌝ }
+    // The place stands in it from a number on.
+    fn stands_from(self, q: Place, from: usize) -> bool
+        requires { ⌜ from ≤ placeLimit ⌝ }
+        ensures { λ r. ⌜ r ≡ any (samePlace (viewPlace q)) (drop from (viewKey self)) ⌝ }
     {
         let count = self.count as usize;
-        let mut i: usize = 0;
+        let mut i: usize = from;
         while i < Self::LIMIT {
             if count <= i {
                 return false;
@@ -121,6 +123,12 @@ impl Key {
             i += 1;
         }
         false
+    }
+
+    pub fn has(self, q: Place) -> bool
+        ensures { λ r. ⌜ r ≡ any (samePlace (viewPlace q)) (viewKey self) ⌝ }
+    {
+        self.stands_from(q, 0)
     }
 
     // A place of it lies in a document of the set.
@@ -135,28 +143,6 @@ impl Key {
             }
             let q = self.places[i];
             if docset::has(set, q.document) {
-                return true;
-            }
-            i += 1;
-        }
-        false
-    }
-
-    // The place stands again from a number on.
-    fn stands_from(self, q: Place, from: usize) -> bool
-        ensures { λ r. ⌜ r ≡ any (samePlace (viewPlace q)) (drop from (viewKey self)) ⌝ }
-    {
-        if Self::LIMIT <= from {
-            return false;
-        }
-        let count = self.count as usize;
-        let mut i: usize = from;
-        while i < Self::LIMIT {
-            if count <= i {
-                return false;
-            }
-            let p = self.places[i];
-            if q.is(p) {
                 return true;
             }
             i += 1;
