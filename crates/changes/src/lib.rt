@@ -138,8 +138,8 @@ impl Changes {
             if count <= i {
                 return false;
             }
-            let c = self.items[i];
-            if c.is_at(q) {
+            let change = self.items[i];
+            if change.is_at(q) {
                 return true;
             }
             i += 1;
@@ -157,8 +157,8 @@ impl Changes {
             if count <= i {
                 return false;
             }
-            let c = self.items[i];
-            if c.sets(q) {
+            let change = self.items[i];
+            if change.sets(q) {
                 return true;
             }
             i += 1;

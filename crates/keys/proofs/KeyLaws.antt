@@ -55,11 +55,7 @@ module _ (k : Key) (l : length (k .places) ≡ 4) where
   place-past i r h e = e ∙ counted-over viewPlace (k .count) (k .places) noPlace i 4 l (inr h)
 
   -- the search for a place from a number on
-  pub stands-past : (q : Place) (i : ℕ) → 4 ≤ i → false ≡ any (S.samePlace (viewPlace q)) (drop i (viewKey k))
-  unfolding viewKey
-  stands-past q i h = sym (ap (any (S.samePlace (viewPlace q))) (counted-gone viewPlace (k .count) (k .places) i 4 l (inr h)))
-
-  pub stands-start : (q : Place) (i : ℕ) → i < 4 → Seeking viewPlace (S.samePlace (viewPlace q)) (λ p. true) false (k .count) 4 (k .places) (any (S.samePlace (viewPlace q)) (drop i (viewKey k))) i
+  pub stands-start : (q : Place) (i : ℕ) → i ≤ 4 → Seeking viewPlace (S.samePlace (viewPlace q)) (λ p. true) false (k .count) 4 (k .places) (any (S.samePlace (viewPlace q)) (drop i (viewKey k))) i
   unfolding viewKey
   stands-start q i h = record { long = l; at = omega arith; rest = refl }
 

@@ -2,7 +2,7 @@
 ghost use mathlib.Core.Path.{_≡_};
 ghost use mathlib.Core.Bool.{true, cond};
 ghost use mathlib.Core.List.{[]};
-ghost use Prim.Native.Nat.{ℕ};
+ghost use Prim.Native.Nat.{ℕ, _≤_};
 ghost use lib.Dec.{ltb};
 ghost use lib.ListN.{length, getD, drop};
 ghost use Rattle.rules.specs.Limits.{placeLimit, keyCount};
@@ -95,21 +95,23 @@ impl Key {
         ensures shows { λ r. ⌜ viewKey r ≡ pushed placeLimit (viewKey self) (viewPlace q) ⌝ }
         ensures form { λ r. ⌜ (keyForm self ≡ true → keyForm r ≡ true) ⌝ }
     {
-        let at = self.count as usize;
-        if Self::LIMIT <= at {
+        let end = self.count as usize;
+        if Self::LIMIT <= end {
             return self;
         }
         let mut t = self;
-        t.places[at] = q;
+        t.places[end] = q;
         t.count = self.count + 1;
         t
     }
 
-    pub fn has(self, q: Place) -> bool
-        ensures { λ r. ⌜ r ≡ any (samePlace (viewPlace q)) (viewKey self) ⌝ }
+    // The place stands in it from a number on.
+    fn stands_from(self, q: Place, from: usize) -> bool
+        requires { ⌜ from ≤ placeLimit ⌝ }
+        ensures { λ r. ⌜ r ≡ any (samePlace (viewPlace q)) (drop from (viewKey self)) ⌝ }
     {
         let count = self.count as usize;
-        let mut i: usize = 0;
+        let mut i: usize = from;
         while i < Self::LIMIT {
             if count <= i {
                 return false;
@@ -121,6 +123,12 @@ impl Key {
             i += 1;
         }
         false
+    }
+
+    pub fn has(self, q: Place) -> bool
+        ensures { λ r. ⌜ r ≡ any (samePlace (viewPlace q)) (viewKey self) ⌝ }
+    {
+        self.stands_from(q, 0)
     }
 
     // A place of it lies in a document of the set.
@@ -135,28 +143,6 @@ impl Key {
             }
             let q = self.places[i];
             if docset::has(set, q.document) {
-                return true;
-            }
-            i += 1;
-        }
-        false
-    }
-
-    // The place stands again from a number on.
-    fn stands_from(self, q: Place, from: usize) -> bool
-        ensures { λ r. ⌜ r ≡ any (samePlace (viewPlace q)) (drop from (viewKey self)) ⌝ }
-    {
-        if Self::LIMIT <= from {
-            return false;
-        }
-        let count = self.count as usize;
-        let mut i: usize = from;
-        while i < Self::LIMIT {
-            if count <= i {
-                return false;
-            }
-            let p = self.places[i];
-            if q.is(p) {
                 return true;
             }
             i += 1;
@@ -206,11 +192,11 @@ impl Keys {
         ensures shows { λ r. ⌜ viewKey r ≡ viewKeys self k ⌝ }
         ensures form { λ r. ⌜ (keysForm self ≡ true → keyForm r ≡ true) ⌝ }
     {
-        let at = k as usize;
-        if Self::LIMIT <= at {
+        let number = k as usize;
+        if Self::LIMIT <= number {
             return Key::empty();
         }
-        self.all[at]
+        self.all[number]
     }
 
     // Another key of a number, if there is such a number.
@@ -219,11 +205,11 @@ impl Keys {
         ensures form { λ r. ⌜ (keysForm self ≡ true → keyForm key ≡ true → keysForm r ≡ true) ⌝ }
     {
         let at = k as usize;
+        let mut keys = self;
         if Self::LIMIT <= at {
-            return self;
+            return keys;
         }
-        let mut t = self;
-        t.all[at] = key;
-        t
+        keys.all[at] = key;
+        keys
     }
 }

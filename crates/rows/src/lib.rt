@@ -30,7 +30,7 @@ impl Picks {
     {
         Self {
             count: 0,
-            numbers: [0; Self::LIMIT],
+            numbers: [0; Picks::LIMIT],
         }
     }
 
@@ -39,12 +39,12 @@ impl Picks {
     {
         let count = self.count as usize;
         let mut i: usize = 0;
-        while i < Self::LIMIT {
+        while i < Picks::LIMIT {
             if count <= i {
                 return false;
             }
-            let m = self.numbers[i];
-            if same(n, m) {
+            let picked = self.numbers[i];
+            if same(n, picked) {
                 return true;
             }
             i += 1;
@@ -58,13 +58,13 @@ impl Picks {
         ensures form { λ r. ⌜ (picksForm self ≡ true → picksForm r ≡ true) ⌝ }
     {
         let at = self.count as usize;
-        if Self::LIMIT <= at {
+        if Picks::LIMIT <= at {
             return self;
         }
-        let mut t = self;
-        t.numbers[at] = n;
-        t.count = self.count + 1;
-        t
+        let mut picks = self;
+        picks.numbers[at] = n;
+        picks.count = self.count + 1;
+        picks
     }
 }
 
@@ -83,7 +83,7 @@ impl Rows {
     {
         Self {
             count: 0,
-            numbers: [0; Self::LIMIT],
+            numbers: [0; Rows::LIMIT],
         }
     }
 
@@ -92,12 +92,12 @@ impl Rows {
     {
         let count = self.count as usize;
         let mut i: usize = 0;
-        while i < Self::LIMIT {
+        while i < Rows::LIMIT {
             if count <= i {
                 return false;
             }
-            let m = self.numbers[i];
-            if same(n, m) {
+            let row = self.numbers[i];
+            if same(n, row) {
                 return true;
             }
             i += 1;
@@ -111,21 +111,21 @@ impl Rows {
         ensures form { λ r. ⌜ (rowsForm self ≡ true → rowsForm r ≡ true) ⌝ }
     {
         let at = self.count as usize;
-        if Self::LIMIT <= at {
+        if Rows::LIMIT <= at {
             return self;
         }
-        let mut t = self;
-        t.numbers[at] = n;
-        t.count = self.count + 1;
-        t
+        let mut rows = self;
+        rows.numbers[at] = n;
+        rows.count = self.count + 1;
+        rows
     }
 
     pub fn len(self) -> u8
         ensures { λ r. ⌜ r ≡ length (viewRows self) ⌝ }
     {
         let n = self.count;
-        if Self::LIMIT <= n as usize {
-            return Self::LIMIT as u8;
+        if Rows::LIMIT <= n as usize {
+            return Rows::LIMIT as u8;
         }
         n
     }
@@ -148,7 +148,7 @@ impl Rows {
         let count = self.count as usize;
         let mut kept = Rows::empty();
         let mut i: usize = 0;
-        while i < Self::LIMIT {
+        while i < Rows::LIMIT {
             if count <= i {
                 return kept;
             }

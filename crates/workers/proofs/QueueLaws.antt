@@ -52,9 +52,9 @@ module _ (q : Queue) where
     unfolding viewQueue ownerOf
     end-other e = byCase (q .live) (λ l. rw (l, ← a, e)) (λ l. rw l)
 
-    pub cut-own : t ≡ true → viewQueue (record { live = q .live; owned = false; owner = 0; since = q .since }) ≡ orphaned w (viewQueue q)
+    pub cut-own : (o : ℕ) → t ≡ true → viewQueue (record { live = q .live; owned = false; owner = o; since = q .since }) ≡ orphaned w (viewQueue q)
     unfolding viewQueue ownerOf
-    cut-own e = byCase (q .live) (λ l. rw (l, ← a, e)) (λ l. rw l)
+    cut-own o e = byCase (q .live) (λ l. rw (l, ← a, e)) (λ l. rw l)
 
     pub cut-other : t ≡ false → viewQueue q ≡ orphaned w (viewQueue q)
     unfolding viewQueue ownerOf

@@ -159,7 +159,8 @@ impl Queue {
         ensures shows { λ r. ⌜ viewQueue r ≡ ended worker (viewQueue self) ⌝ }
         ensures form { λ r. ⌜ (queueForm self ≡ true → queueForm r ≡ true) ⌝ }
     {
-        if self.is_owned_by(worker) {
+        let own = self.is_owned_by(worker);
+        if own {
             return Self::empty();
         }
         self
@@ -202,11 +203,11 @@ impl Hands {
         ensures shows { λ r. ⌜ viewHand r ≡ viewHands self worker ⌝ }
         ensures form { λ r. ⌜ (handsForm self ≡ true → handForm r ≡ true) ⌝ }
     {
-        let w = worker as usize;
-        if Self::LIMIT <= w {
+        let at = worker as usize;
+        if Self::LIMIT <= at {
             return Hand::empty();
         }
-        self.all[w]
+        self.all[at]
     }
 
     // Another hand of a worker, if there is such a worker.
@@ -215,12 +216,12 @@ impl Hands {
         ensures form { λ r. ⌜ (handsForm self ≡ true → handForm h ≡ true → handsForm r ≡ true) ⌝ }
     {
         let w = worker as usize;
+        let mut hands = self;
         if Self::LIMIT <= w {
-            return self;
+            return hands;
         }
-        let mut t = self;
-        t.all[w] = h;
-        t
+        hands.all[w] = h;
+        hands
     }
 
     // Some hand holds the session.

@@ -30,11 +30,11 @@ loop-holds c = search (seek-start, length-mapped)
 returns : tie.Need-returns Inv-loop μ-loop
 returns c = search seek-end
 
-mul-c : tie.Need-mul-c Inv-loop μ-loop
-mul-c c = search needs
+mul-change : tie.Need-mul-change Inv-loop μ-loop
+mul-change c = search needs
 
-element-copy-out-c : tie.Need-element-copy-out-c Inv-loop μ-loop
-element-copy-out-c c = search needs
+element-copy-out-change : tie.Need-element-copy-out-change Inv-loop μ-loop
+element-copy-out-change c = search needs
 
 sets-requires : tie.Need-sets-requires Inv-loop μ-loop
 sets-requires c κs = search needs
@@ -63,8 +63,8 @@ sets-spec =
     cast-count
     loop-holds
     returns
-    mul-c
-    element-copy-out-c
+    mul-change
+    element-copy-out-change
     sets-requires
     returns-2
     add-i

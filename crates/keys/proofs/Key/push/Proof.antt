@@ -10,8 +10,8 @@ use Rattle.keys.proofs.Key.push.Tie as tie
 use Rattle.keys.proofs.Key.push.Reads as reads
 use Rattle.keys.proofs.Key.push.Lts as lts
 
-cast-at : tie.Need-cast-at
-cast-at c = search needs
+cast-end : tie.Need-cast-end
+cast-end c = search needs
 
 returns : tie.Need-returns
 unfolding viewKey
@@ -31,4 +31,4 @@ unfolding viewKey keyForm
 returns-2 c = (search (push-room, length-mapped, needs), search (form-push, needs))
 
 pub push-spec : {M : Type 1} → statement M
-push-spec = tie.close (tie.spec cast-at returns mul-q element-set-from-q add-t returns-2)
+push-spec = tie.close (tie.spec cast-end returns mul-q element-set-from-q add-t returns-2)

@@ -8,7 +8,7 @@ use Rattle.rules.specs.Values as S
 use Rattle.lists.proofs.Loops.{length-mapped}
 use Rattle.lists.proofs.Views.{Seeking, seek-hit, seek-next, seek-end, seek-past}
 use Rattle.keys.specs.View.{viewPlace, viewKey}
-use Rattle.keys.proofs.KeyLaws.{stands-past, stands-start}
+use Rattle.keys.proofs.KeyLaws.{stands-start}
 use Rattle.keys.proofs.Key.stands_from.Statement.{statement}
 use Rattle.keys.proofs.Key.stands_from.Tie as tie
 use Rattle.keys.proofs.Key.stands_from.Reads as reads
@@ -21,17 +21,14 @@ Inv-loop q from self count i₀ i = Seeking viewPlace (S.samePlace (viewPlace q)
 abbrev μ-loop : tie.MeasureT-loop
 μ-loop q from self count i₀ i = 4 - i
 
-returns : tie.Need-returns Inv-loop μ-loop
-returns c = search (stands-past, length-mapped, needs)
-
 cast-count : tie.Need-cast-count Inv-loop μ-loop
 cast-count c = search needs
 
 loop-holds : tie.Need-loop-holds Inv-loop μ-loop
 loop-holds c = search (stands-start, length-mapped, needs)
 
-returns-2 : tie.Need-returns-2 Inv-loop μ-loop
-returns-2 c = search seek-end
+returns : tie.Need-returns Inv-loop μ-loop
+returns c = search seek-end
 
 mul-p : tie.Need-mul-p Inv-loop μ-loop
 mul-p c = search needs
@@ -42,8 +39,8 @@ element-copy-out-p c = search needs
 is-requires : tie.Need-is-requires Inv-loop μ-loop
 is-requires c κs = search needs
 
-returns-3 : tie.Need-returns-3 Inv-loop μ-loop
-returns-3 c = search seek-hit
+returns-2 : tie.Need-returns-2 Inv-loop μ-loop
+returns-2 c = search seek-hit
 
 add-i : tie.Need-add-i Inv-loop μ-loop
 add-i c = search needs
@@ -54,8 +51,8 @@ loop-less c = search needs
 loop-again : tie.Need-loop-again Inv-loop μ-loop
 loop-again c = search seek-next
 
-returns-4 : tie.Need-returns-4 Inv-loop μ-loop
-returns-4 c = search seek-past
+returns-3 : tie.Need-returns-3 Inv-loop μ-loop
+returns-3 c = search seek-past
 
 pub stands-from-spec : {M : Type 1} → statement M
 stands-from-spec =
@@ -63,15 +60,14 @@ stands-from-spec =
     (tie.spec
     Inv-loop
     μ-loop
-    returns
     cast-count
     loop-holds
-    returns-2
+    returns
     mul-p
     element-copy-out-p
     is-requires
-    returns-3
+    returns-2
     add-i
     loop-less
     loop-again
-    returns-4)
+    returns-3)

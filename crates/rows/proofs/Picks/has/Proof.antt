@@ -28,11 +28,11 @@ loop-holds c = search (seek-start, needs)
 returns : tie.Need-returns Inv-loop μ-loop
 returns c = search seek-end
 
-mul-m : tie.Need-mul-m Inv-loop μ-loop
-mul-m c = search needs
+mul-picked : tie.Need-mul-picked Inv-loop μ-loop
+mul-picked c = search needs
 
-element-copy-out-m : tie.Need-element-copy-out-m Inv-loop μ-loop
-element-copy-out-m c = search needs
+element-copy-out-picked : tie.Need-element-copy-out-picked Inv-loop μ-loop
+element-copy-out-picked c = search needs
 
 same-requires : tie.Need-same-requires Inv-loop μ-loop
 same-requires c κs = search needs
@@ -61,8 +61,8 @@ has-spec =
     cast-count
     loop-holds
     returns
-    mul-m
-    element-copy-out-m
+    mul-picked
+    element-copy-out-picked
     same-requires
     returns-2
     add-i

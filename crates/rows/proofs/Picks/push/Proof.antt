@@ -16,18 +16,18 @@ returns : tie.Need-returns
 unfolding viewPicks
 returns c = (search (push-full, needs), λ f. f)
 
-mul-t : tie.Need-mul-t
-mul-t c = search needs
+mul-picks : tie.Need-mul-picks
+mul-picks c = search needs
 
-element-write-t : tie.Need-element-write-t
-element-write-t c = search needs
+element-write-picks : tie.Need-element-write-picks
+element-write-picks c = search needs
 
-add-t : tie.Need-add-t
-add-t c = search needs
+add-picks : tie.Need-add-picks
+add-picks c = search needs
 
 returns-2 : tie.Need-returns-2
 unfolding viewPicks picksForm
 returns-2 c = (search (push-room, needs), search (form-push, needs))
 
 pub push-spec : {M : Type 1} → statement M
-push-spec = tie.close (tie.spec cast-at returns mul-t element-write-t add-t returns-2)
+push-spec = tie.close (tie.spec cast-at returns mul-picks element-write-picks add-picks returns-2)

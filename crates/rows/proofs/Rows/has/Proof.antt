@@ -28,11 +28,11 @@ loop-holds c = search (seek-start, needs)
 returns : tie.Need-returns Inv-loop μ-loop
 returns c = search seek-end
 
-mul-m : tie.Need-mul-m Inv-loop μ-loop
-mul-m c = search needs
+mul-row : tie.Need-mul-row Inv-loop μ-loop
+mul-row c = search needs
 
-element-copy-out-m : tie.Need-element-copy-out-m Inv-loop μ-loop
-element-copy-out-m c = search needs
+element-copy-out-row : tie.Need-element-copy-out-row Inv-loop μ-loop
+element-copy-out-row c = search needs
 
 same-requires : tie.Need-same-requires Inv-loop μ-loop
 same-requires c κs = search needs
@@ -61,8 +61,8 @@ has-spec =
     cast-count
     loop-holds
     returns
-    mul-m
-    element-copy-out-m
+    mul-row
+    element-copy-out-row
     same-requires
     returns-2
     add-i

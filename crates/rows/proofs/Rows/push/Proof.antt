@@ -16,18 +16,18 @@ returns : tie.Need-returns
 unfolding viewRows
 returns c = (search (push-full, needs), λ f. f)
 
-mul-t : tie.Need-mul-t
-mul-t c = search needs
+mul-rows : tie.Need-mul-rows
+mul-rows c = search needs
 
-element-write-t : tie.Need-element-write-t
-element-write-t c = search needs
+element-write-rows : tie.Need-element-write-rows
+element-write-rows c = search needs
 
-add-t : tie.Need-add-t
-add-t c = search needs
+add-rows : tie.Need-add-rows
+add-rows c = search needs
 
 returns-2 : tie.Need-returns-2
 unfolding viewRows rowsForm
 returns-2 c = (search (push-room, needs), search (form-push, needs))
 
 pub push-spec : {M : Type 1} → statement M
-push-spec = tie.close (tie.spec cast-at returns mul-t element-write-t add-t returns-2)
+push-spec = tie.close (tie.spec cast-at returns mul-rows element-write-rows add-rows returns-2)
