@@ -1,2 +1,3 @@
--- Laws of a session's end.
+-- Laws of the session that calls, and of its end.
 pub mod Laws
+pub mod Standing

@@ -4,8 +4,10 @@ use mathlib.Core.Bool.{Bool, true, _&&_}
 use mathlib.Core.List.{[]}
 use Rattle.rules.specs.Values as S
 use Rattle.rules.specs.Tables as M
-use Rattle.rules.specs.Kept.{kept}
-use Rattle.rules.proofs.KeptTest.{setup-is-kept, kept-iff}
+use Rattle.rules.specs.Lists.{all}
+use Rattle.rules.specs.Reading.{current}
+use Rattle.rules.specs.Kept.{kept, plantRules, cacheRules, isCurrent}
+use Rattle.rules.proofs.KeptTest.{setup-is-kept, kept-iff, every-parts}
 use Rattle.rules.proofs.KeptParts.{Kept}
 use Rattle.rules.proofs.Laws.{both, and-true}
 use Rattle.store.specs.View.{viewStore}
@@ -33,3 +35,10 @@ module _ (p : Plant) where
   pub kept-parts : keptPlant p ≡ true → Kept (viewPlant p)
   unfolding keptPlant
   kept-parts k = kept-iff (viewPlant p) .0 (and-true (plantForm p) (kept (viewPlant p)) k .1)
+
+  -- the cached keys hold the current fields
+  pub cache-current : keptPlant p ≡ true → all (isCurrent (current (viewPlant p)) (viewPlant p .keys)) (viewPlant p .cache) ≡ true
+  unfolding keptPlant kept
+  cache-current k =
+      let a = every-parts (plantRules (viewPlant p)) (and-true (plantForm p) (kept (viewPlant p)) k .1) in
+      every-parts (cacheRules (current (viewPlant p)) (viewPlant p .keys) (viewPlant p .next) (viewPlant p .cache)) (a .1 .1 .0) .1 .1 .1 .0

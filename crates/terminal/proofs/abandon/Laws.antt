@@ -7,7 +7,6 @@ use Prim.Native.Nat.{ℕ, suc}
 use lib.IntN.{ℤ}
 use mir.Syntax.{w64}
 use mir.Val.{SFits}
-use borrow.Author.Tests.{not-false}
 use Rattle.rules.specs.Limits.{lastSession}
 use Rattle.rules.specs.Values.{below, natOf}
 use Rattle.rules.specs.Refusals.{noSlot, wasDoomed, _⇒_}
@@ -24,40 +23,36 @@ use Rattle.session.specs.declared.Session.{Session}
 use Rattle.sessions.specs.View.{viewSessions}
 use Rattle.plant.specs.View.{viewPlant, keptPlant}
 use Rattle.plant.specs.declared.Plant.{Plant}
-use Rattle.plant.proofs.PlantLaws.{kept-parts}
 use Rattle.answers.specs.View.{viewAnswer, isRefused}
 use Rattle.answers.specs.declared.Answer.{Answer}
 use Rattle.promises.specs.Promise.{chosen, result, Leaves}
 use Rattle.promises.proofs.Telling.{refuses, accepts, none-held, left-accepted}
-use Rattle.promises.proofs.Numbers.{slot-is, number-is}
+use Rattle.ending.proofs.Standing.{has-slot, its-session}
 
 module _ (p : Plant) (z : ℤ) (fits : SFits w64 z) (n : ℕ) (e : n ≡ cond (below (held z) (suc lastSession)) (natOf (held z)) 0)
     (t : Bool) (et : t ≡ hasSlot n (viewSessions (p .sessions))) (lent : List ℤ) (k : keptPlant p ≡ true) where
   abbrev Answered : C.Answer → Type 0
   Answered a = a ≡ result (Abandon z) lent p .answer
 
-  has-slot : M.isSlot z (viewSessions (p .sessions)) ≡ t
-  unfolding viewPlant
-  has-slot = slot-is (viewPlant p) (kept-parts p k) z fits n e ∙ sym et
+  slot : M.isSlot z (viewSessions (p .sessions)) ≡ t
+  slot = has-slot p k z fits n e t et
 
   pub no-slot : not t ≡ true → Answered (refused noSlot)
   unfolding conditions viewPlant _⇒_
-  no-slot h = refuses (Abandon z) lent (chosen (viewPlant p)) (viewPlant p) _ (rw (has-slot, h) refl)
+  no-slot h = refuses (Abandon z) lent (chosen (viewPlant p)) (viewPlant p) _ (rw (slot, h) refl)
 
   module _ (h : not t ≡ false) (s : Session) (es : viewSession s ≡ M.session n (viewSessions (p .sessions))) (d : Bool) (ed : d ≡ viewSlot s .session .doomed) where
-    session-is : M.session (natOf z) (viewSessions (p .sessions)) .doomed ≡ d
-    unfolding viewPlant viewSlot
-    session-is =
-        ap (λ (m : ℕ). M.session m (viewSessions (p .sessions)) .doomed) (number-is (viewPlant p) (kept-parts p k) z fits n e (sym et ∙ not-false t h))
-        ∙ ap (λ (x : M.Session). x .doomed) (sym es) ∙ sym ed
+    found : M.session (natOf z) (viewSessions (p .sessions)) .doomed ≡ d
+    unfolding viewSlot
+    found = ap (λ (x : M.Session). x .doomed) (its-session p k z fits n e t et h s es) ∙ sym ed
 
     pub was-doomed : d ≡ true → Answered (refused wasDoomed)
     unfolding conditions viewPlant _⇒_
-    was-doomed g = refuses (Abandon z) lent (chosen (viewPlant p)) (viewPlant p) _ (rw (has-slot, h, session-is, g) refl)
+    was-doomed g = refuses (Abandon z) lent (chosen (viewPlant p)) (viewPlant p) _ (rw (slot, h, found, g) refl)
 
     pub abandons : d ≡ false → Answered (fine [])
     unfolding conditions viewPlant _⇒_ accepted
-    abandons g = accepts (Abandon z) lent (chosen (viewPlant p)) (viewPlant p) (rw (has-slot, h, session-is, g) refl)
+    abandons g = accepts (Abandon z) lent (chosen (viewPlant p)) (viewPlant p) (rw (slot, h, found, g) refl)
 
 -- ── the plant left ──
 pub frees : (p : Plant) (z : ℤ) (a : Answer) (r : Bool) → r ≡ isRefused (viewAnswer a) → r ≡ false

@@ -1,0 +1,2 @@
+-- Laws of commit.
+mod Laws

@@ -1,0 +1,56 @@
+-- `after` meets its contract.
+use Rattle.commit.proofs.Laws.{commits, commits-form}
+use Rattle.promises.proofs.Leaving.{ends, stays}
+use mathlib.Core.Path.{refl}
+use borrow.Author.Needs.{needs}
+use Rattle.commit.proofs.after.Statement.{statement}
+use Rattle.commit.proofs.after.Tie as tie
+
+ends-session-requires : tie.Need-ends-session-requires
+ends-session-requires c κs = search needs
+
+ended-requires : tie.Need-ended-requires
+ended-requires c κs = search needs
+
+returns : tie.Need-returns
+returns c = (ends _ _ (c .before .before .before .args .a) _ (c .before .before .ends-session .ensures) (c .before .if1 .taken) _ (c .before .before .before .fits .session) refl _ (c .ended .ensures .0), c .ended .ensures .1)
+
+is-refused-requires : tie.Need-is-refused-requires
+is-refused-requires c κs = search needs
+
+returns-2 : tie.Need-returns-2
+returns-2 c = search (stays, needs)
+
+session-requires : tie.Need-session-requires
+session-requires c κs = search needs
+
+session-requires-2 : tie.Need-session-requires-2
+session-requires-2 c κs = search needs
+
+buffered-requires : tie.Need-buffered-requires
+buffered-requires c κs = search needs
+
+up-to-date-requires : tie.Need-up-to-date-requires
+up-to-date-requires c κs = search needs
+
+freed-requires : tie.Need-freed-requires
+freed-requires c κs = search needs
+
+returns-3 : tie.Need-returns-3
+returns-3 c = search (commits, commits-form, needs)
+
+pub after-spec : {M : Type 1} → statement M
+after-spec =
+    tie.close
+    (tie.spec
+    ends-session-requires
+    ended-requires
+    returns
+    is-refused-requires
+    returns-2
+    session-requires
+    session-requires-2
+    buffered-requires
+    up-to-date-requires
+    freed-requires
+    returns-3)

@@ -1,0 +1,72 @@
+// Commit: the session's changes go to the buffer, cached keys show them from now on, and the session ends. The store is not touched.
+ghost use mathlib.Core.Path.{_≡_};
+ghost use mathlib.Core.Bool.{true};
+ghost use mathlib.Core.List.{List};
+ghost use lib.IntN.{ℤ};
+ghost use Rattle.rules.specs.Calls.{Commit};
+ghost use Rattle.rules.specs.Effects.{bufferedAfter};
+ghost use Rattle.changes.specs.View.{viewChanges};
+ghost use Rattle.changes.specs.Form.{changesForm};
+ghost use Rattle.buffer.specs.View.{viewBuffer};
+ghost use Rattle.buffer.specs.Form.{bufferForm};
+ghost use Rattle.plant.specs.View.{plantForm};
+ghost use Rattle.promises.specs.Promise.{Answers, Leaves};
+use answers::Answer;
+use answers::Refusal;
+use batch::Batch;
+use buffer::Buffer;
+use changes::Changes;
+use plant::Plant;
+
+// A session without changes is not buffered.
+fn buffered(b: Buffer, number: u32, changes: Changes) -> Buffer
+    ensures shows { λ r. ⌜ viewBuffer r ≡ bufferedAfter number (viewChanges changes) (viewBuffer b) ⌝ }
+    ensures form { λ r. ⌜ (changesForm changes ≡ true → bufferForm b ≡ true → bufferForm r ≡ true) ⌝ }
+{
+    if changes.is_empty() {
+        return b;
+    }
+    let committed = Batch { number, changes };
+    b.push(committed)
+}
+
+pub fn answer(p: Plant, session: i64) -> Answer
+    ensures { λ r. ⌜ ((lent : List ℤ) → Answers (Commit session) lent p r) ⌝ }
+{
+    let n = arguments::session(session);
+    if !p.sessions.has(n) {
+        return Answer::Refused(Refusal::NoSlot);
+    }
+    let s = p.sessions.session(n);
+    if s.is_doomed() {
+        return Answer::Refused(Refusal::WasDoomed);
+    }
+    let count = p.buffer.len();
+    if s.changes.is_empty() {
+        return Answer::Committed(count);
+    }
+    if Buffer::LIMIT <= count as usize {
+        return Answer::Refused(Refusal::BufferFull);
+    }
+    Answer::Committed(count + 1)
+}
+
+pub fn after(mut p: Plant, session: i64, a: Answer) -> Plant
+    ensures shows { λ r. ⌜ Leaves (Commit session) p a r ⌝ }
+    ensures form { λ r. ⌜ (plantForm p ≡ true → plantForm r ≡ true) ⌝ }
+{
+    if a.ends_session() {
+        return ending::ended(p, session);
+    }
+    if a.is_refused() {
+        return p;
+    }
+    let n = arguments::session(session);
+    let s = p.sessions.session(n);
+    let changes = s.changes;
+    let keys = p.keys;
+    p.buffer = buffered(p.buffer, n, changes);
+    p.cache = p.cache.up_to_date(keys, changes);
+    p.sessions = p.sessions.freed(n);
+    p
+}
