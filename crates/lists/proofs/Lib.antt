@@ -4,3 +4,4 @@ pub mod Views
 pub mod Indexed
 pub mod Forms
 pub mod Remake
+pub mod Ends

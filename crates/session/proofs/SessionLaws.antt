@@ -113,10 +113,6 @@ pub session-of : (s : Session) (m : M.Slot) → viewSlot s ≡ m → viewSession
 unfolding viewSlot
 session-of s m e = ap (λ (x : M.Slot). x .session) e
 
-pub slot-number : (s : Session) → s .number ≡ viewSlot s .number
-unfolding viewSlot
-slot-number s = refl
-
 pub session-doomed : (s : Session) → s .doomed ≡ viewSession s .doomed
 unfolding viewSession
 session-doomed s = refl

@@ -1,12 +1,12 @@
 -- The table of sessions through its view: one law for each way out of a method.
-use Prim.Native.Nat.{ℕ, _+_, _≤_, _<_}
+use Prim.Native.Nat.{ℕ, _+_, _≤_, _<_, min}
 use native.Mathlib.Omega.{arith}
 use mathlib.Core.Path.{_≡_, refl, sym, _∙_, ap, fun-ext}
 use mathlib.Core.Bool.{Bool, true, false, not, cond, _||_}
 use mathlib.Core.List.{List, [], _∷_, map, map-id}
 use lib.Dec.{eqb, ltb}
 use lib.ListN.{length, getD, set}
-use borrow.Author.Tests.{le-leb, lt-leb}
+use borrow.Author.Tests.{eq-eqb, ne-eqb, le-leb, lt-leb}
 use Rattle.rules.specs.Limits.{documentCount}
 use Rattle.rules.specs.Lists.{any, pushed}
 use Rattle.rules.specs.Tables as M
@@ -14,9 +14,10 @@ use Rattle.rules.specs.Effects.{opened, firstDoomed, room, grant, loses, isLost
 use Rattle.rules.proofs.Laws.{or-zero}
 use Rattle.lists.specs.Find.{fold}
 use Rattle.lists.specs.Table.{counted}
-use Rattle.lists.proofs.Views.{Remaking, remake-past, push-room, push-full, counted-few, counted-full}
+use Rattle.lists.proofs.Views.{Remaking, remake-start, Keeping, keep-start, keep-next, push-room, push-full, counted-few, counted-full, counted-length}
+use Rattle.lists.proofs.Ends.{keep-done, remake-here, remake-done}
 use Rattle.lists.proofs.Forms.{form-empty, form-push, used-at}
-use Rattle.lists.proofs.Remake.{remake-end, form-set}
+use Rattle.lists.proofs.Remake.{form-set}
 use Rattle.docset.specs.Sets.{docs}
 use Rattle.docset.proofs.SetLaws.{docs-none}
 use Rattle.changes.specs.declared.Update.{Update}
@@ -45,13 +46,18 @@ pub slot-form : (t : Sessions) (i : ℕ) (d : Session) → i < t .count → sess
 unfolding sessionsForm
 slot-form t i d h f = used-at 8 sessionForm isUnused (t .count) (t .slots) i d h f
 
-pub len-full : (t : Sessions) → length (t .slots) ≡ 8 → 8 ≤ t .count → 8 ≡ length (viewSessions t)
+pub len-is : (t : Sessions) (n : ℕ) → length (t .slots) ≡ 8 → n ≡ min (t .count) 8 → n ≡ length (viewSessions t)
 unfolding viewSessions
-len-full t l h = counted-full viewSlot (t .count) (t .slots) 8 l h
+len-is t n l e = e ∙ sym (counted-length viewSlot (t .count) (t .slots) 8 l)
 
-pub len-few : (t : Sessions) → length (t .slots) ≡ 8 → t .count < 8 → t .count ≡ length (viewSessions t)
-unfolding viewSessions
-len-few t l h = counted-few viewSlot (t .count) (t .slots) 8 l h
+-- the slot of a number, by the code's test
+pub number-is : (s : Session) (n : ℕ) → n ≡ s .number → eqb n (viewSlot s .number) ≡ true
+unfolding viewSlot
+number-is s n e = eq-eqb n (s .number) e
+
+pub number-not : (s : Session) (n : ℕ) → (n ≡ s .number → ⊥) → eqb n (viewSlot s .number) ≡ false
+unfolding viewSlot
+number-not s n e = ne-eqb n (s .number) e
 
 -- ── one more ──
 module _ (t : Sessions) (s : Session) (l : length (t .slots) ≡ 8) where
@@ -67,12 +73,31 @@ pub push-form : (t : Sessions) (s : Session) → t .count < 8 → sessionForm s 
 unfolding sessionsForm
 push-form t s h e f = form-push 8 sessionForm isUnused (t .count) (t .slots) s h e f
 
-module _ (t : Sessions) (s : Session) (n : ℕ) {b : Bool} (e : b ≡ eqb n (viewSlot s .number)) where
-  pub unless-own : b ≡ true → viewSessions t ≡ cond (not (eqb n (viewSlot s .number))) (pushed 8 (viewSessions t) (viewSlot s)) (viewSessions t)
-  unless-own h = rw (← e, h)
+-- ── the slots but for that of n ──
+pub record Freeing (n : ℕ) (t u : Sessions) (i : ℕ) : Type 0 where
+  pub kept : Keeping viewSlot (λ s. not (eqb n (s .number))) (t .count) 8 (t .slots) (M.freed n (viewSessions t)) (viewSessions u) i
+  pub form : sessionsForm t ≡ true → sessionsForm u ≡ true
 
-  pub unless-other : (r : Sessions) → b ≡ false → viewSessions r ≡ pushed 8 (viewSessions t) (viewSlot s) → viewSessions r ≡ cond (not (eqb n (viewSlot s .number))) (pushed 8 (viewSessions t) (viewSlot s)) (viewSessions t)
-  unless-other r h q = q ∙ rw (← e, h)
+pub free-start : {n : ℕ} {t u : Sessions} → length (t .slots) ≡ 8 → viewSessions u ≡ [] → sessionsForm u ≡ true → Freeing n t u 0
+unfolding viewSessions
+free-start l e f = record { kept = keep-start l e; form = λ h. f }
+
+module _ {n : ℕ} {t u : Sessions} {i : ℕ} (inv : Freeing n t u i) where
+  pub free-own : (d : Session) (r : Sessions) → i < min (t .count) 8 → n ≡ getD (t .slots) i d .number → r ≡ u → Freeing n t r (i + 1)
+  unfolding viewSlot
+  free-own d r h e q = record { kept = keep-next (inv .kept) d (omega arith) (omega arith) (ap viewSessions q ∙ rw (eq-eqb n (getD (t .slots) i d .number) e)); form = λ f. rw q (inv .form f) }
+
+  pub free-other : (d : Session) (x r : Sessions) → i < min (t .count) 8 → (n ≡ getD (t .slots) i d .number → ⊥) → viewSessions x ≡ pushed 8 (viewSessions u) (viewSlot (getD (t .slots) i d))
+      → (sessionForm (getD (t .slots) i d) ≡ true → sessionsForm u ≡ true → sessionsForm x ≡ true) → r ≡ x → Freeing n t r (i + 1)
+  unfolding viewSlot
+  free-other d x r h e p f q =
+      record {
+        kept = keep-next (inv .kept) d (omega arith) (omega arith) (ap viewSessions q ∙ p ∙ rw (ne-eqb n (getD (t .slots) i d .number) e));
+        form = λ g. rw q (f (slot-form t i d (omega arith) g) (inv .form g));
+      }
+
+  pub free-done : min (t .count) 8 ≤ i → viewSessions u ≡ M.freed n (viewSessions t)
+  free-done h = keep-done (inv .kept) h
 
 -- ── room ──
 module _ (t : Sessions) (l : length (t .slots) ≡ 8) where
@@ -89,15 +114,30 @@ module _ (t : Sessions) (l : length (t .slots) ≡ 8) where
 pub begun-is : (t u r : Sessions) (s : Session) (n clock : ℕ) → viewSessions u ≡ room (viewSessions t) → viewSlot s ≡ opened n clock → viewSessions r ≡ pushed 8 (viewSessions u) (viewSlot s) → viewSessions r ≡ pushed 8 (room (viewSessions t)) (opened n clock)
 begun-is t u r s n clock p q e = e ∙ ap (λ (l : List M.Slot). pushed 8 l (viewSlot s)) p ∙ ap (pushed 8 (room (viewSessions t))) q
 
--- ── every slot in use made anew ──
-module _ (t : Sessions) (g : M.Slot → M.Slot) (vs : List Session) (i : ℕ) (inv : Remaking viewSlot g (t .slots) 8 vs i) where
-  pub remade-end : t .count ≤ i → viewSessions (record { count = t .count; slots = vs }) ≡ map g (viewSessions t)
-  unfolding viewSessions
-  remade-end h = remake-end inv (t .count) h
+-- ── every slot in use made anew, in place; F is what the form needs ──
+pub record Making (F : Type 0) (g : M.Slot → M.Slot) (t r : Sessions) (i : ℕ) : Type 0 where
+  pub count : r .count ≡ t .count
+  pub slots : Remaking viewSlot g (t .slots) 8 (r .slots) i
+  pub form : F → sessionsForm r ≡ true
 
-  pub remade-past : 8 ≤ i → viewSessions (record { count = t .count; slots = vs }) ≡ map g (viewSessions t)
+pub make-start : {F : Type 0} {g : M.Slot → M.Slot} {t : Sessions} → length (t .slots) ≡ 8 → (F → sessionsForm t ≡ true) → Making F g t t 0
+make-start l f = record { count = refl; slots = remake-start l; form = f }
+
+module _ {F : Type 0} {g : M.Slot → M.Slot} {t r : Sessions} {i : ℕ} (inv : Making F g t r i) where
+  pub make-next : (d s : Session) → i < min (t .count) 8 → viewSlot s ≡ g (viewSlot (getD (r .slots) i d)) → (F → sessionForm (getD (r .slots) i d) ≡ true → sessionForm s ≡ true)
+      → Making F g t (record { count = r .count; slots = set (r .slots) i s }) (i + 1)
+  unfolding sessionsForm
+  make-next d s h e f =
+      let m : i < r .count = omega (arith, inv .count) in
+      record {
+        count = inv .count;
+        slots = remake-here (inv .slots) d (omega arith) e;
+        form = λ a. form-set 8 sessionForm isUnused (r .count) (r .slots) i s m (f a (slot-form r i d m (inv .form a))) (inv .form a);
+      }
+
+  pub make-end : min (t .count) 8 ≤ i → viewSessions r ≡ map g (viewSessions t)
   unfolding viewSessions
-  remade-past h = remake-past inv (t .count) h
+  make-end h = rw (inv .count) (remake-done (inv .slots) (t .count) h)
 
 -- a test that is the same for each is one for all
 each-if : (b : Bool) (g : M.Slot → M.Slot) (l : List M.Slot) → map (λ s. cond b (g s) s) l ≡ cond b (map g l) l
@@ -111,10 +151,6 @@ pub granted-all : (now n : ℕ) (c : Update) (t r : Sessions) → viewSessions r
     → viewSessions r ≡ cond (ltb (c .place .document) documentCount) (M.each (grant now n (viewUpdate c)) (viewSessions t)) (viewSessions t)
 unfolding granted
 granted-all now n c t r e = e ∙ each-if (ltb (c .place .document) documentCount) (M.remade (grant now n (viewUpdate c))) (viewSessions t)
-
-pub set-form : (n : ℕ) (vs : List Session) (i : ℕ) (s : Session) → i < n → sessionForm s ≡ true → sessionsForm (record { count = n; slots = vs }) ≡ true → sessionsForm (record { count = n; slots = set vs i s }) ≡ true
-unfolding sessionsForm
-set-form n vs i s h e f = form-set 8 sessionForm isUnused n vs i s h e f
 
 -- ── the sets of several gathered in one ──
 or-cond : (a x y : Bool) → (a || x) || y ≡ a || cond x true y

@@ -1,9 +1,9 @@
 // The table of the sessions with a slot, in the order of their numbers.
 ghost use mathlib.Core.Path.{_≡_};
-ghost use mathlib.Core.Bool.{true, not, cond};
+ghost use mathlib.Core.Bool.{true, cond};
 ghost use mathlib.Core.List.{[]};
-ghost use Prim.Native.Nat.{ℕ};
-ghost use lib.Dec.{eqb, ltb};
+ghost use Prim.Native.Nat.{ℕ, min};
+ghost use lib.Dec.{ltb};
 ghost use lib.ListN.{length};
 ghost use Rattle.rules.specs.Limits.{documentCount, slotLimit};
 ghost use Rattle.rules.specs.Lists.{any, pushed};
@@ -40,28 +40,31 @@ impl Sessions {
         }
     }
 
+    // How many slots of a count are in use.
+    fn used(count: u8) -> usize
+        ensures { λ r. ⌜ r ≡ min count slotLimit ⌝ }
+    {
+        let n = count as usize;
+        if Self::LIMIT <= n {
+            return Self::LIMIT;
+        }
+        n
+    }
+
     pub fn len(self) -> u8
         ensures { λ r. ⌜ r ≡ length (viewSessions self) ⌝ }
     {
-        let n = self.count;
-        if Self::LIMIT <= n as usize {
-            return Self::LIMIT as u8;
-        }
-        n
+        Self::used(self.count) as u8
     }
 
     // The number has a slot.
     pub fn has(self, n: u32) -> bool
         ensures { λ r. ⌜ r ≡ hasSlot n (viewSessions self) ⌝ }
     {
-        let count = self.count as usize;
+        let end = Self::used(self.count);
         let mut i: usize = 0;
-        while i < Self::LIMIT {
-            if count <= i {
-                return false;
-            }
-            let s = self.slots[i];
-            if s.is(n) {
+        while i < end {
+            if n == self.slots[i].number {
                 return true;
             }
             i += 1;
@@ -74,15 +77,11 @@ impl Sessions {
         ensures shows { λ r. ⌜ viewSession r ≡ session n (viewSessions self) ⌝ }
         ensures form { λ r. ⌜ (sessionsForm self ≡ true → sessionForm r ≡ true) ⌝ }
     {
-        let count = self.count as usize;
+        let end = Self::used(self.count);
         let mut i: usize = 0;
-        while i < Self::LIMIT {
-            if count <= i {
-                return Session::empty();
-            }
-            let found = self.slots[i];
-            if found.is(n) {
-                return found;
+        while i < end {
+            if n == self.slots[i].number {
+                return self.slots[i];
             }
             i += 1;
         }
@@ -93,14 +92,10 @@ impl Sessions {
     pub fn others_exclusive(self, n: u32, d: u8) -> bool
         ensures { λ r. ⌜ r ≡ othersExclusive n d (viewSessions self) ⌝ }
     {
-        let count = self.count as usize;
+        let end = Self::used(self.count);
         let mut i: usize = 0;
-        while i < Self::LIMIT {
-            if count <= i {
-                return false;
-            }
-            let s = self.slots[i];
-            if s.hinders(n, d) {
+        while i < end {
+            if self.slots[i].hinders(n, d) {
                 return true;
             }
             i += 1;
@@ -111,14 +106,10 @@ impl Sessions {
     pub fn any_doomed(self) -> bool
         ensures { λ r. ⌜ r ≡ any (λ s. s .session .doomed) (viewSessions self) ⌝ }
     {
-        let count = self.count as usize;
+        let end = Self::used(self.count);
         let mut i: usize = 0;
-        while i < Self::LIMIT {
-            if count <= i {
-                return false;
-            }
-            let s = self.slots[i];
-            if s.is_doomed() {
+        while i < end {
+            if self.slots[i].doomed {
                 return true;
             }
             i += 1;
@@ -130,15 +121,11 @@ impl Sessions {
     pub fn first_doomed(self) -> u32
         ensures { λ r. ⌜ r ≡ firstDoomed (viewSessions self) ⌝ }
     {
-        let count = self.count as usize;
+        let end = Self::used(self.count);
         let mut i: usize = 0;
-        while i < Self::LIMIT {
-            if count <= i {
-                return 0;
-            }
-            let s = self.slots[i];
-            if s.is_doomed() {
-                return s.number;
+        while i < end {
+            if self.slots[i].doomed {
+                return self.slots[i].number;
             }
             i += 1;
         }
@@ -160,30 +147,18 @@ impl Sessions {
         t
     }
 
-    fn push_unless(self, s: Session, n: u32) -> Self
-        ensures shows { λ r. ⌜ viewSessions r ≡ cond (not (eqb n (viewSlot s .number))) (pushed slotLimit (viewSessions self) (viewSlot s)) (viewSessions self) ⌝ }
-        ensures form { λ r. ⌜ (sessionForm s ≡ true → sessionsForm self ≡ true → sessionsForm r ≡ true) ⌝ }
-    {
-        if s.is(n) {
-            return self;
-        }
-        self.push(s)
-    }
-
     // The slot of n is free.
     pub fn freed(self, n: u32) -> Self
         ensures shows { λ r. ⌜ viewSessions r ≡ freed n (viewSessions self) ⌝ }
         ensures form { λ r. ⌜ (sessionsForm self ≡ true → sessionsForm r ≡ true) ⌝ }
     {
-        let count = self.count as usize;
-        let mut kept = Sessions::empty();
+        let end = Self::used(self.count);
+        let mut kept = Self::empty();
         let mut i: usize = 0;
-        while i < Self::LIMIT {
-            if count <= i {
-                return kept;
+        while i < end {
+            if n != self.slots[i].number {
+                kept = kept.push(self.slots[i]);
             }
-            let s = self.slots[i];
-            kept = kept.push_unless(s, n);
             i += 1;
         }
         kept
@@ -198,8 +173,7 @@ impl Sessions {
         if count < Self::LIMIT {
             return self;
         }
-        let n = self.first_doomed();
-        self.freed(n)
+        self.freed(self.first_doomed())
     }
 
     // A new session of a number, in a slot that is free or whose session is doomed.
@@ -207,9 +181,7 @@ impl Sessions {
         ensures shows { λ r. ⌜ viewSessions r ≡ pushed slotLimit (room (viewSessions self)) (opened number clock) ⌝ }
         ensures form { λ r. ⌜ (sessionsForm self ≡ true → sessionsForm r ≡ true) ⌝ }
     {
-        let t = self.room();
-        let s = Session::opened(number, clock);
-        t.push(s)
+        self.room().push(Session::opened(number, clock))
     }
 
     // After a change of session n: it has the lease and the change, and the other holders are doomed.
@@ -217,25 +189,15 @@ impl Sessions {
         ensures shows { λ r. ⌜ viewSessions r ≡ cond (ltb (c .place .document) documentCount) (each (grant now n (viewUpdate c)) (viewSessions self)) (viewSessions self) ⌝ }
         ensures form { λ r. ⌜ (isUsed c ≡ true → sessionsForm self ≡ true → sessionsForm r ≡ true) ⌝ }
     {
-        let old = self.slots;
-        let count = self.count as usize;
-        let mut slots = old;
+        let end = Self::used(self.count);
+        let mut t = self;
         let mut i: usize = 0;
-        while i < Self::LIMIT {
-            if count <= i {
-                return Self {
-                    count: self.count,
-                    slots,
-                };
-            }
-            let s = old[i];
-            slots[i] = s.grant(n, c, now);
+        while i < end {
+            let s = t.slots[i].grant(n, c, now);
+            t.slots[i] = s;
             i += 1;
         }
-        Self {
-            count: self.count,
-            slots,
-        }
+        t
     }
 
     // After a read of session n: it has shared leases on the documents of the key.
@@ -243,25 +205,15 @@ impl Sessions {
         ensures shows { λ r. ⌜ viewSessions r ≡ each (onlyAt n (withShared now (within (viewKey key)))) (viewSessions self) ⌝ }
         ensures form { λ r. ⌜ (sessionsForm self ≡ true → sessionsForm r ≡ true) ⌝ }
     {
-        let old = self.slots;
-        let count = self.count as usize;
-        let mut slots = old;
+        let end = Self::used(self.count);
+        let mut t = self;
         let mut i: usize = 0;
-        while i < Self::LIMIT {
-            if count <= i {
-                return Self {
-                    count: self.count,
-                    slots,
-                };
-            }
-            let s = old[i];
-            slots[i] = s.share_own(n, key, now);
+        while i < end {
+            let s = t.slots[i].share_own(n, key, now);
+            t.slots[i] = s;
             i += 1;
         }
-        Self {
-            count: self.count,
-            slots,
-        }
+        t
     }
 
     // When the clock is at a tick: the sessions that lapse are doomed.
@@ -269,40 +221,26 @@ impl Sessions {
         ensures shows { λ r. ⌜ viewSessions r ≡ each (lapse clock) (viewSessions self) ⌝ }
         ensures form { λ r. ⌜ (sessionsForm self ≡ true → sessionsForm r ≡ true) ⌝ }
     {
-        let old = self.slots;
-        let count = self.count as usize;
-        let mut slots = old;
+        let end = Self::used(self.count);
+        let mut t = self;
         let mut i: usize = 0;
-        while i < Self::LIMIT {
-            if count <= i {
-                return Self {
-                    count: self.count,
-                    slots,
-                };
-            }
-            let s = old[i];
-            slots[i] = s.lapsed(clock);
+        while i < end {
+            let s = t.slots[i].lapsed(clock);
+            t.slots[i] = s;
             i += 1;
         }
-        Self {
-            count: self.count,
-            slots,
-        }
+        t
     }
 
     // The documents that the sessions that lapse hold.
     pub fn lost(self, clock: u64) -> u64
         ensures { λ r. ⌜ docs r ≡ isLost clock (viewSessions self) ⌝ }
     {
-        let count = self.count as usize;
+        let end = Self::used(self.count);
         let mut set: u64 = 0;
         let mut i: usize = 0;
-        while i < Self::LIMIT {
-            if count <= i {
-                return set;
-            }
-            let s = self.slots[i];
-            set = docset::union(set, s.lost(clock));
+        while i < end {
+            set = docset::union(set, self.slots[i].lost(clock));
             i += 1;
         }
         set

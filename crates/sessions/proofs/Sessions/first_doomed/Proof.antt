@@ -1,42 +1,44 @@
 -- `Sessions::first_doomed` meets its contract. The loop looks for the first doomed session.
 use borrow.Author.Needs.{needs}
+use mathlib.Core.Path.{refl}
 use Prim.Native.Nat.{_-_}
 use Rattle.lists.proofs.Loops.{length-mapped}
-use Rattle.lists.proofs.Views.{Seeking, seek-start, seek-hit, seek-next, seek-end, seek-past}
+use Rattle.lists.proofs.Views.{Seeking, seek-start}
+use Rattle.lists.proofs.Ends.{seek-found, seek-on, seek-done}
 use Rattle.sessions.specs.View.{viewSessions}
-use Rattle.session.specs.View.{viewSlot}
-use Rattle.session.proofs.SessionLaws.{slot-number}
+use Rattle.session.specs.View.{viewSlot, viewSession}
 use Rattle.rules.specs.Effects.{firstDoomed}
 use Rattle.sessions.proofs.Sessions.first_doomed.Statement.{statement}
 use Rattle.sessions.proofs.Sessions.first_doomed.Tie as tie
 
 abbrev Inv-loop : tie.InvT-loop
-Inv-loop self count i₀ i = Seeking viewSlot (λ s. s .session .doomed) (λ s. s .number) 0 count 8 (self .slots) (firstDoomed (viewSessions self)) i
+Inv-loop self end i₀ i = Seeking viewSlot (λ s. s .session .doomed) (λ s. s .number) 0 (self .count) 8 (self .slots) (firstDoomed (viewSessions self)) i
 
 abbrev μ-loop : tie.MeasureT-loop
-μ-loop self count i₀ i = 8 - i
+μ-loop self end i₀ i = end - i
 
-cast-count : tie.Need-cast-count Inv-loop μ-loop
-cast-count c = search needs
+used-requires : tie.Need-used-requires Inv-loop μ-loop
+used-requires c κs = search needs
 
 loop-holds : tie.Need-loop-holds Inv-loop μ-loop
 unfolding viewSessions
 loop-holds c = search (seek-start, length-mapped, needs)
 
+mul-if1 : tie.Need-mul-if1 Inv-loop μ-loop
+mul-if1 c = search needs
+
+element-copy-out-if1 : tie.Need-element-copy-out-if1 Inv-loop μ-loop
+element-copy-out-if1 c = search needs
+
+mul-result : tie.Need-mul-result Inv-loop μ-loop
+mul-result c = search needs
+
+element-copy-out-result : tie.Need-element-copy-out-result Inv-loop μ-loop
+element-copy-out-result c = search needs
+
 returns : tie.Need-returns Inv-loop μ-loop
-returns c = search (seek-end, needs)
-
-mul-s : tie.Need-mul-s Inv-loop μ-loop
-mul-s c = search needs
-
-element-copy-out-s : tie.Need-element-copy-out-s Inv-loop μ-loop
-element-copy-out-s c = search needs
-
-is-doomed-requires : tie.Need-is-doomed-requires Inv-loop μ-loop
-is-doomed-requires c κs = search needs
-
-returns-2 : tie.Need-returns-2 Inv-loop μ-loop
-returns-2 c = search (seek-hit, slot-number, needs)
+unfolding viewSlot viewSession
+returns c = seek-found (c .before .before .loop .inv) _ (search needs) (c .if1 .taken) refl
 
 add-i : tie.Need-add-i Inv-loop μ-loop
 add-i c = search needs
@@ -45,25 +47,11 @@ loop-less : tie.Need-loop-less Inv-loop μ-loop
 loop-less c = search needs
 
 loop-again : tie.Need-loop-again Inv-loop μ-loop
-loop-again c = search (seek-next, needs)
+unfolding viewSlot viewSession
+loop-again c = seek-on (c .before .before .loop .inv) _ (search needs) (c .if1 .left)
 
-returns-3 : tie.Need-returns-3 Inv-loop μ-loop
-returns-3 c = search (seek-past, needs)
+returns-2 : tie.Need-returns-2 Inv-loop μ-loop
+returns-2 c = seek-done (c .before .loop .inv) (search needs) refl
 
 pub first-doomed-spec : {M : Type 1} → statement M
-first-doomed-spec =
-    tie.close
-    (tie.spec
-    Inv-loop
-    μ-loop
-    cast-count
-    loop-holds
-    returns
-    mul-s
-    element-copy-out-s
-    is-doomed-requires
-    returns-2
-    add-i
-    loop-less
-    loop-again
-    returns-3)
+first-doomed-spec = tie.close (tie.spec Inv-loop μ-loop used-requires loop-holds mul-if1 element-copy-out-if1 mul-result element-copy-out-result returns add-i loop-less loop-again returns-2)

@@ -1,47 +1,42 @@
 -- `Sessions::lapsed` meets its contract. The loop has made the slots before i anew, and keeps the form.
 use borrow.Author.Needs.{needs}
-use mathlib.Core.Path.{_≡_}
 use Prim.Native.Nat.{_-_}
 use Rattle.lists.proofs.Loops.{length-mapped}
+use mathlib.Core.Path.{_≡_}
 use mathlib.Core.Bool.{true}
-use Rattle.lists.proofs.Views.{Remaking, remake-start, remake-next}
-use Rattle.session.specs.View.{viewSlot}
 use Rattle.sessions.specs.Form.{sessionsForm}
-use Rattle.sessions.proofs.SessionsLaws.{remade-end, remade-past, set-form, slot-form}
 use Rattle.rules.specs.Tables.{remade}
 use Rattle.rules.specs.Effects.{lapse}
+use Rattle.sessions.proofs.SessionsLaws.{Making, make-start, make-next, make-end}
 use Rattle.sessions.proofs.Sessions.lapsed.Statement.{statement}
 use Rattle.sessions.proofs.Sessions.lapsed.Tie as tie
 
 abbrev Inv-loop : tie.InvT-loop
-Inv-loop self clock old count slots₀ i₀ slots i = (Remaking viewSlot (remade (lapse clock)) old 8 slots i) × (sessionsForm self ≡ true → sessionsForm (record { count = self .count; slots = slots }) ≡ true)
+Inv-loop clock end t₀ i₀ t i = Making (sessionsForm t₀ ≡ true) (remade (lapse clock)) t₀ t i
 
 abbrev μ-loop : tie.MeasureT-loop
-μ-loop self clock old count slots₀ i₀ slots i = 8 - i
+μ-loop clock end t₀ i₀ t i = end - i
 
-cast-count : tie.Need-cast-count Inv-loop μ-loop
-cast-count c = search needs
+used-requires : tie.Need-used-requires Inv-loop μ-loop
+used-requires c κs = search needs
 
 loop-holds : tie.Need-loop-holds Inv-loop μ-loop
-loop-holds c = (search (remake-start, length-mapped, needs), λ f. f)
+loop-holds c = make-start (search (length-mapped, needs)) (λ h. h)
 
-returns : tie.Need-returns Inv-loop μ-loop
-returns c = (remade-end _ _ _ _ (c .before .before .loop .inv .0) (c .if1 .taken), c .before .before .loop .inv .1)
+mul-lapsed : tie.Need-mul-lapsed Inv-loop μ-loop
+mul-lapsed c = search needs
 
-mul-s : tie.Need-mul-s Inv-loop μ-loop
-mul-s c = search needs
-
-array-copy-out-s : tie.Need-array-copy-out-s Inv-loop μ-loop
-array-copy-out-s c = search needs
+element-copy-out-lapsed : tie.Need-element-copy-out-lapsed Inv-loop μ-loop
+element-copy-out-lapsed c = search needs
 
 lapsed-requires : tie.Need-lapsed-requires Inv-loop μ-loop
 lapsed-requires c κs = search needs
 
-mul-slots : tie.Need-mul-slots Inv-loop μ-loop
-mul-slots c = search needs
+mul-s : tie.Need-mul-s Inv-loop μ-loop
+mul-s c = search needs
 
-array-set-from-slots : tie.Need-array-set-from-slots Inv-loop μ-loop
-array-set-from-slots c = search needs
+element-set-from-s : tie.Need-element-set-from-s Inv-loop μ-loop
+element-set-from-s c = search needs
 
 add-i : tie.Need-add-i Inv-loop μ-loop
 add-i c = search needs
@@ -50,29 +45,10 @@ loop-less : tie.Need-loop-less Inv-loop μ-loop
 loop-less c = search needs
 
 loop-again : tie.Need-loop-again Inv-loop μ-loop
-loop-again c = (
-  remake-next (c .before .before .before .before .loop .inv .0) _ (c .before .before .before .loop-test .taken) (c .lapsed .ensures .0),
-  λ f. set-form _ _ _ _ (c .before .before .if1 .left) (c .lapsed .ensures .1 (slot-form _ _ _ (c .before .before .if1 .left) f)) (c .before .before .before .before .loop .inv .1 f),
-)
+loop-again c = make-next (c .before .before .before .loop .inv) _ _ (search needs) (c .lapsed .ensures .0) (λ h. c .lapsed .ensures .1)
 
-returns-2 : tie.Need-returns-2 Inv-loop μ-loop
-returns-2 c = (remade-past _ _ _ _ (c .before .loop .inv .0) (c .loop-test .left), c .before .loop .inv .1)
+returns : tie.Need-returns Inv-loop μ-loop
+returns c = (make-end (c .before .loop .inv) (search needs), c .before .loop .inv .form)
 
 pub lapsed-spec : {M : Type 1} → statement M
-lapsed-spec =
-    tie.close
-    (tie.spec
-    Inv-loop
-    μ-loop
-    cast-count
-    loop-holds
-    returns
-    mul-s
-    array-copy-out-s
-    lapsed-requires
-    mul-slots
-    array-set-from-slots
-    add-i
-    loop-less
-    loop-again
-    returns-2)
+lapsed-spec = tie.close (tie.spec Inv-loop μ-loop used-requires loop-holds mul-lapsed element-copy-out-lapsed lapsed-requires mul-s element-set-from-s add-i loop-less loop-again returns)

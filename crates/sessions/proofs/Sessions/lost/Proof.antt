@@ -2,35 +2,33 @@
 use borrow.Author.Needs.{needs}
 use Prim.Native.Nat.{_-_}
 use Rattle.lists.proofs.Loops.{length-mapped}
+use Rattle.session.specs.View.{viewSlot}
 use Rattle.rules.specs.Effects.{isLost}
 use Rattle.docset.specs.Sets.{docs}
-use Rattle.lists.proofs.Views.{Working, work-start, work-next, work-end, work-past}
+use Rattle.lists.proofs.Views.{Working, work-start, work-next}
+use Rattle.lists.proofs.Ends.{work-done}
 use Rattle.sessions.specs.View.{viewSessions}
-use Rattle.session.specs.View.{viewSlot}
 use Rattle.sessions.proofs.SessionsLaws.{gathered, gather-is, gather-one}
 use Rattle.sessions.proofs.Sessions.lost.Statement.{statement}
 use Rattle.sessions.proofs.Sessions.lost.Tie as tie
 
 abbrev Inv-loop : tie.InvT-loop
-Inv-loop clock self count set₀ i₀ set i = Working viewSlot (gathered clock) count 8 (self .slots) (isLost clock (viewSessions self)) (docs set) i
+Inv-loop clock self end set₀ i₀ set i = Working viewSlot (gathered clock) (self .count) 8 (self .slots) (isLost clock (viewSessions self)) (docs set) i
 
 abbrev μ-loop : tie.MeasureT-loop
-μ-loop clock self count set₀ i₀ set i = 8 - i
+μ-loop clock self end set₀ i₀ set i = end - i
 
-cast-count : tie.Need-cast-count Inv-loop μ-loop
-cast-count c = search needs
+used-requires : tie.Need-used-requires Inv-loop μ-loop
+used-requires c κs = search needs
 
 loop-holds : tie.Need-loop-holds Inv-loop μ-loop
 loop-holds c = work-start (search (length-mapped, needs)) (gather-is _ _)
 
-returns : tie.Need-returns Inv-loop μ-loop
-returns c = search (work-end, needs)
+mul-lost : tie.Need-mul-lost Inv-loop μ-loop
+mul-lost c = search needs
 
-mul-s : tie.Need-mul-s Inv-loop μ-loop
-mul-s c = search needs
-
-element-copy-out-s : tie.Need-element-copy-out-s Inv-loop μ-loop
-element-copy-out-s c = search needs
+element-copy-out-lost : tie.Need-element-copy-out-lost Inv-loop μ-loop
+element-copy-out-lost c = search needs
 
 lost-requires : tie.Need-lost-requires Inv-loop μ-loop
 lost-requires c κs = search needs
@@ -45,27 +43,10 @@ loop-less : tie.Need-loop-less Inv-loop μ-loop
 loop-less c = search needs
 
 loop-again : tie.Need-loop-again Inv-loop μ-loop
-loop-again c =
-    work-next (c .before .before .before .before .before .loop .inv) _ (c .before .before .before .before .loop-test .taken) (c .before .before .before .if1 .left)
-    (gather-one _ _ _ _ _ (c .before .lost .ensures) (c .union .ensures))
+loop-again c = work-next (c .before .before .before .before .loop .inv) _ (search needs) (search needs) (gather-one _ _ _ _ _ (c .before .lost .ensures) (c .union .ensures))
 
-returns-2 : tie.Need-returns-2 Inv-loop μ-loop
-returns-2 c = search (work-past, needs)
+returns : tie.Need-returns Inv-loop μ-loop
+returns c = work-done (c .before .loop .inv) (search needs)
 
 pub lost-spec : {M : Type 1} → statement M
-lost-spec =
-    tie.close
-    (tie.spec
-    Inv-loop
-    μ-loop
-    cast-count
-    loop-holds
-    returns
-    mul-s
-    element-copy-out-s
-    lost-requires
-    union-requires
-    add-i
-    loop-less
-    loop-again
-    returns-2)
+lost-spec = tie.close (tie.spec Inv-loop μ-loop used-requires loop-holds mul-lost element-copy-out-lost lost-requires union-requires add-i loop-less loop-again returns)

@@ -1,8 +1,10 @@
 -- `Sessions::others_exclusive` meets its contract. The loop looks for the first slot that hinders.
 use borrow.Author.Needs.{needs}
 use Prim.Native.Nat.{_-_}
+use mathlib.Core.Path.{refl, sym, _∙_}
 use Rattle.lists.proofs.Loops.{length-mapped}
-use Rattle.lists.proofs.Views.{Seeking, seek-start, seek-hit, seek-next, seek-end, seek-past}
+use Rattle.lists.proofs.Views.{Seeking, seek-start}
+use Rattle.lists.proofs.Ends.{seek-found, seek-on, seek-done}
 use Rattle.sessions.specs.View.{viewSessions}
 use Rattle.session.specs.View.{viewSlot}
 use mathlib.Core.Bool.{true, false, not, _&&_}
@@ -12,32 +14,29 @@ use Rattle.sessions.proofs.Sessions.others_exclusive.Statement.{stateme
 use Rattle.sessions.proofs.Sessions.others_exclusive.Tie as tie
 
 abbrev Inv-loop : tie.InvT-loop
-Inv-loop n d self count i₀ i = Seeking viewSlot (λ s. not (eqb n (s .number)) && isExclusive (s .session .lease d)) (λ s. true) false count 8 (self .slots) (othersExclusive n d (viewSessions self)) i
+Inv-loop n d self end i₀ i = Seeking viewSlot (λ s. not (eqb n (s .number)) && isExclusive (s .session .lease d)) (λ s. true) false (self .count) 8 (self .slots) (othersExclusive n d (viewSessions self)) i
 
 abbrev μ-loop : tie.MeasureT-loop
-μ-loop n d self count i₀ i = 8 - i
+μ-loop n d self end i₀ i = end - i
 
-cast-count : tie.Need-cast-count Inv-loop μ-loop
-cast-count c = search needs
+used-requires : tie.Need-used-requires Inv-loop μ-loop
+used-requires c κs = search needs
 
 loop-holds : tie.Need-loop-holds Inv-loop μ-loop
 unfolding viewSessions
 loop-holds c = search (seek-start, length-mapped, needs)
 
-returns : tie.Need-returns Inv-loop μ-loop
-returns c = search (seek-end, needs)
+mul-hinders : tie.Need-mul-hinders Inv-loop μ-loop
+mul-hinders c = search needs
 
-mul-s : tie.Need-mul-s Inv-loop μ-loop
-mul-s c = search needs
-
-element-copy-out-s : tie.Need-element-copy-out-s Inv-loop μ-loop
-element-copy-out-s c = search needs
+element-copy-out-hinders : tie.Need-element-copy-out-hinders Inv-loop μ-loop
+element-copy-out-hinders c = search needs
 
 hinders-requires : tie.Need-hinders-requires Inv-loop μ-loop
 hinders-requires c κs = search needs
 
-returns-2 : tie.Need-returns-2 Inv-loop μ-loop
-returns-2 c = search (seek-hit, needs)
+returns : tie.Need-returns Inv-loop μ-loop
+returns c = seek-found (c .before .before .before .before .loop .inv) _ (search needs) (sym (c .before .hinders .ensures) ∙ c .if1 .taken) refl
 
 add-i : tie.Need-add-i Inv-loop μ-loop
 add-i c = search needs
@@ -46,25 +45,10 @@ loop-less : tie.Need-loop-less Inv-loop μ-loop
 loop-less c = search needs
 
 loop-again : tie.Need-loop-again Inv-loop μ-loop
-loop-again c = search (seek-next, needs)
+loop-again c = seek-on (c .before .before .before .before .loop .inv) _ (search needs) (sym (c .before .hinders .ensures) ∙ c .if1 .left)
 
-returns-3 : tie.Need-returns-3 Inv-loop μ-loop
-returns-3 c = search (seek-past, needs)
+returns-2 : tie.Need-returns-2 Inv-loop μ-loop
+returns-2 c = seek-done (c .before .loop .inv) (search needs) refl
 
 pub others-exclusive-spec : {M : Type 1} → statement M
-others-exclusive-spec =
-    tie.close
-    (tie.spec
-    Inv-loop
-    μ-loop
-    cast-count
-    loop-holds
-    returns
-    mul-s
-    element-copy-out-s
-    hinders-requires
-    returns-2
-    add-i
-    loop-less
-    loop-again
-    returns-3)
+others-exclusive-spec = tie.close (tie.spec Inv-loop μ-loop used-requires loop-holds mul-hinders element-copy-out-hinders hinders-requires returns add-i loop-less loop-again returns-2)

@@ -2,46 +2,44 @@
 use borrow.Author.Needs.{needs}
 use Prim.Native.Nat.{_-_}
 use Rattle.lists.proofs.Loops.{length-mapped}
-use Rattle.lists.proofs.Views.{Seeking, seek-start, seek-hit, seek-next, seek-end, seek-past}
+use Rattle.lists.proofs.Views.{Seeking, seek-start}
+use Rattle.lists.proofs.Ends.{seek-found, seek-on, seek-done}
 use Rattle.sessions.specs.View.{viewSessions}
 use Rattle.session.specs.View.{viewSlot}
 use lib.Dec.{eqb}
 use Rattle.rules.specs.Tables.{session, doomedSession}
 use Rattle.session.proofs.SessionLaws.{slot-session}
-use Rattle.sessions.proofs.SessionsLaws.{slot-form, unused-form}
+use Rattle.sessions.proofs.SessionsLaws.{slot-form, unused-form, number-is, number-not}
 use Rattle.sessions.proofs.Sessions.session.Statement.{statement}
 use Rattle.sessions.proofs.Sessions.session.Tie as tie
 
 abbrev Inv-loop : tie.InvT-loop
-Inv-loop n self count i₀ i = Seeking viewSlot (λ s. eqb n (s .number)) (λ s. s .session) doomedSession count 8 (self .slots) (session n (viewSessions self)) i
+Inv-loop n self end i₀ i = Seeking viewSlot (λ s. eqb n (s .number)) (λ s. s .session) doomedSession (self .count) 8 (self .slots) (session n (viewSessions self)) i
 
 abbrev μ-loop : tie.MeasureT-loop
-μ-loop n self count i₀ i = 8 - i
+μ-loop n self end i₀ i = end - i
 
-cast-count : tie.Need-cast-count Inv-loop μ-loop
-cast-count c = search needs
+used-requires : tie.Need-used-requires Inv-loop μ-loop
+used-requires c κs = search needs
 
 loop-holds : tie.Need-loop-holds Inv-loop μ-loop
 unfolding viewSessions
 loop-holds c = search (seek-start, length-mapped, needs)
 
-empty-requires : tie.Need-empty-requires Inv-loop μ-loop
-empty-requires c κs = search needs
+mul-if1 : tie.Need-mul-if1 Inv-loop μ-loop
+mul-if1 c = search needs
+
+element-copy-out-if1 : tie.Need-element-copy-out-if1 Inv-loop μ-loop
+element-copy-out-if1 c = search needs
+
+mul-result : tie.Need-mul-result Inv-loop μ-loop
+mul-result c = search needs
+
+element-copy-out-result : tie.Need-element-copy-out-result Inv-loop μ-loop
+element-copy-out-result c = search needs
 
 returns : tie.Need-returns Inv-loop μ-loop
-returns c = (search (seek-end, needs), λ f. unused-form _ (c .empty .ensures .1))
-
-mul-found : tie.Need-mul-found Inv-loop μ-loop
-mul-found c = search needs
-
-element-copy-out-found : tie.Need-element-copy-out-found Inv-loop μ-loop
-element-copy-out-found c = search needs
-
-is-requires : tie.Need-is-requires Inv-loop μ-loop
-is-requires c κs = search needs
-
-returns-2 : tie.Need-returns-2 Inv-loop μ-loop
-returns-2 c = (search (seek-hit, slot-session, needs), λ f. slot-form _ _ _ (c .before .before .before .if1 .left) f)
+returns c = (seek-found (c .before .before .before .loop .inv) _ (search needs) (number-is _ _ (c .before .if1 .taken)) (slot-session _), λ f. slot-form _ _ _ (search needs) f)
 
 add-i : tie.Need-add-i Inv-loop μ-loop
 add-i c = search needs
@@ -50,30 +48,13 @@ loop-less : tie.Need-loop-less Inv-loop μ-loop
 loop-less c = search needs
 
 loop-again : tie.Need-loop-again Inv-loop μ-loop
-loop-again c = search (seek-next, needs)
+loop-again c = seek-on (c .before .before .loop .inv) _ (search needs) (number-not _ _ (c .if1 .left))
 
-empty-requires-2 : tie.Need-empty-requires-2 Inv-loop μ-loop
-empty-requires-2 c κs = search needs
+empty-requires : tie.Need-empty-requires Inv-loop μ-loop
+empty-requires c κs = search needs
 
-returns-3 : tie.Need-returns-3 Inv-loop μ-loop
-returns-3 c = (search (seek-past, needs), λ f. unused-form _ (c .empty2 .ensures .1))
+returns-2 : tie.Need-returns-2 Inv-loop μ-loop
+returns-2 c = (seek-done (c .before .before .loop .inv) (search needs) (c .empty .ensures .0), λ f. unused-form _ (c .empty .ensures .1))
 
 pub session-spec : {M : Type 1} → statement M
-session-spec =
-    tie.close
-    (tie.spec
-    Inv-loop
-    μ-loop
-    cast-count
-    loop-holds
-    empty-requires
-    returns
-    mul-found
-    element-copy-out-found
-    is-requires
-    returns-2
-    add-i
-    loop-less
-    loop-again
-    empty-requires-2
-    returns-3)
+session-spec = tie.close (tie.spec Inv-loop μ-loop used-requires loop-holds mul-if1 element-copy-out-if1 mul-result element-copy-out-result returns add-i loop-less loop-again empty-requires returns-2)
