@@ -1,28 +1,35 @@
 -- The cached keys through their view: one law for each way out of a method.
-use Prim.Native.Nat.{ℕ, zero, suc, _+_, _-_, _<_, _≤_}
+use Prim.Native.Nat.{ℕ, zero, suc, _+_, _-_, _<_, _≤_, min}
 use native.Mathlib.Omega.{arith}
 use mathlib.Core.Path.{_≡_, refl, sym, _∙_, ap}
 use mathlib.Core.Bool.{Bool, true, false, cond}
 use mathlib.Core.List.{List, [], _∷_, _++_, map}
 use lib.ListN.{length, getD, set, take, replicate, length-map}
-use Rattle.rules.specs.Lists.{dropAt}
+use lib.Dec.{eqb}
+use Rattle.rules.specs.Lists.{any, dropAt}
+use Rattle.rules.specs.Values as S
+use Rattle.rules.specs.Changes as C
+use Rattle.rules.specs.Reading as D
 use Rattle.rules.specs.Tables as M
 use Rattle.rules.specs.Effects.{inDocuments, stays}
 use Rattle.docset.specs.Sets.{docs}
-use Rattle.keys.specs.View.{viewKey, viewKeys}
+use Rattle.keys.specs.View.{viewPlace, viewKey, viewKeys}
+use Rattle.keys.specs.declared.Place.{Place}
 use Rattle.keys.specs.declared.Key.{Key}
 use Rattle.keys.specs.declared.Keys.{Keys}
 use Rattle.lists.specs.Table.{counted}
 use Rattle.lists.proofs.Loops.{Removing, remove-end, take-removed}
-use Rattle.lists.proofs.Views.{counted-length}
+use Rattle.lists.proofs.Views.{counted-length, Remaking, remake-start}
 use Rattle.lists.proofs.Forms.{form-parts, form-empty, form-remove, used-at}
-use Rattle.cached.specs.View.{noCached, viewCached}
+use Rattle.lists.proofs.Remake.{form-set}
+use Rattle.cached.specs.View.{noCached, viewCached, afterChanges}
 use Rattle.cached.specs.Form.{cachedForm, isBlankCached}
 use Rattle.cached.specs.declared.Cached.{Cached}
 use Rattle.cached.proofs.CachedLaws.{blank-cached}
 use Rattle.cache.specs.View.{viewCache}
 use Rattle.cache.specs.Form.{cacheForm}
 use Rattle.cache.specs.declared.Cache.{Cache}
+use Rattle.cache.proofs.Ends.{remake-here, remake-done}
 
 -- ── the table ──
 pub cache-empty : (c : Cached) → viewCached c ≡ noCached → cachedForm c ≡ true → cacheForm (record { count = 0; entries = replicate 16 c }) ≡ true
@@ -84,12 +91,58 @@ module _ (t : Cache) (n : ℕ) (a : n ≡ length (viewCache t)) where
         let q : n ≡ t .count = omega (arith, a, f .within, counted-length viewCached (t .count) (t .entries) 16 (inv .long)) in
         rw (remove-end inv h, q) (form-remove 16 cachedForm isBlankCached 0 (t .count) (t .entries) d (omega arith) (blank-cached d b b′) e)
 
--- ── does a cached key stay ──
-module _ (c : Cached) (keys : Keys) (k : Key) (e : viewKey k ≡ viewKeys keys (c .key)) (set : ℕ) (t : Bool) (a : t ≡ inDocuments (docs set) (viewKey k)) (x y : List M.Cached) where
-  pub leaves : t ≡ true → y ≡ cond (stays (docs set) (viewKeys keys) (viewCached c)) x y
-  unfolding stays viewCached
-  leaves h = rw (← e, ← a, h)
+-- ── all brought up to date ──
+pub record Dating (cs : List C.Update) (keys : ℕ → List S.Place) (t r : Cache) (n i : ℕ) : Type 0 where
+  pub made : Remaking viewCached (λ c. afterChanges cs (keys (c .key)) c) (t .entries) 16 (r .entries) i
+  pub count : r .count ≡ t .count
+  pub end : n ≡ min (t .count) 16
+  pub form : cacheForm t ≡ true → cacheForm r ≡ true
 
-  pub remains : {r : List M.Cached} → t ≡ false → r ≡ x → r ≡ cond (stays (docs set) (viewKeys keys) (viewCached c)) x y
-  unfolding stays viewCached
-  remains h q = q ∙ rw (← e, ← a, h)
+module _ {cs : List C.Update} {keys : ℕ → List S.Place} {t : Cache} {n : ℕ} where
+  pub date-start : length (t .entries) ≡ 16 → n ≡ length (viewCache t) → Dating cs keys t t n 0
+  unfolding viewCache
+  date-start l e = record { made = remake-start l; count = refl; end = e ∙ counted-length viewCached (t .count) (t .entries) 16 l; form = λ f. f }
+
+  module _ {r : Cache} {i : ℕ} (inv : Dating cs keys t r n i) where
+    pub date-next : (d c : Cached) → i < n → viewCached c ≡ afterChanges cs (keys (viewCached (getD (r .entries) i d) .key)) (viewCached (getD (r .entries) i d)) → (cachedForm (getD (r .entries) i d) ≡ true → cachedForm c ≡ true)
+        → Dating cs keys t (record { count = r .count; entries = set (r .entries) i c }) n (i + 1)
+    unfolding cacheForm
+    date-next d c h e f =
+        let q = inv .count in
+        let o = inv .end in
+        let m : i < r .count = omega arith in
+        record {
+          made = remake-here (inv .made) d (omega arith) e;
+          count = q;
+          end = o;
+          form = λ g. form-set 16 cachedForm isBlankCached (r .count) (r .entries) i c m (f (entry-form r i d m (inv .form g))) (inv .form g);
+        }
+
+    pub date-end : n ≤ i → viewCache r ≡ map (λ c. afterChanges cs (keys (c .key)) c) (viewCache t)
+    unfolding viewCache
+    date-end h = rw (inv .count) (remake-done (inv .made) (t .count) (rw (inv .end) at h))
+
+-- ── a cached key with the places that the table of keys gives it ──
+pub key-is : (c : Cached) (k : ℕ) → eqb k (c .key) ≡ eqb k (viewCached c .key)
+unfolding viewCached
+key-is c k = refl
+
+module _ (c : Cached) (keys : Keys) (k : Key) (e : viewKey k ≡ viewKeys keys (c .key)) where
+  pub shows-is : (q : Place) {r : Bool} → r ≡ any (S.samePlace (viewPlace q)) (viewKey k) → r ≡ D.showsIt (viewKeys keys) (viewPlace q) (viewCached c)
+  unfolding D.showsIt viewCached
+  shows-is q h = h ∙ ap (any (S.samePlace (viewPlace q))) e
+
+  -- the field of a place, by the table of keys
+  pub field-of : (q : Place) {r : S.Field} → r ≡ D.fieldAt (viewPlace q) (viewKey k) (viewCached c .fields) → r ≡ D.fieldAt (viewPlace q) (viewKeys keys (viewCached c .key)) (viewCached c .fields)
+  unfolding viewCached
+  field-of q h = h ∙ rw e
+
+  -- does it stay
+  module _ (set : ℕ) (t : Bool) (a : t ≡ inDocuments (docs set) (viewKey k)) (x y : List M.Cached) where
+    pub leaves : t ≡ true → y ≡ cond (stays (docs set) (viewKeys keys) (viewCached c)) x y
+    unfolding stays viewCached
+    leaves h = rw (← e, ← a, h)
+
+    pub remains : {r : List M.Cached} → t ≡ false → r ≡ x → r ≡ cond (stays (docs set) (viewKeys keys) (viewCached c)) x y
+    unfolding stays viewCached
+    remains h q = q ∙ rw (← e, ← a, h)

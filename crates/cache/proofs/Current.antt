@@ -1,5 +1,5 @@
 -- Where the cached keys hold the current fields, what `Cache::up_to_date` promises is the rules' `upToDate` of the stock after the changes.
-use Prim.Native.Nat.{ℕ, suc, _+_}
+use Prim.Native.Nat.{ℕ, suc}
 use native.Mathlib.Numerals.{add-one}
 use mathlib.Core.Path.{_≡_, refl, _∙_, ap, ap₂}
 use mathlib.Core.Bool.{true}

@@ -1,4 +1,5 @@
 -- Laws of the cached keys.
+pub mod Ends
 pub mod CacheLaws
 pub mod Current
 pub mod Unique

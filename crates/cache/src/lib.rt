@@ -56,14 +56,12 @@ impl Cache {
     pub fn has(self, k: u8) -> bool
         ensures { λ r. ⌜ r ≡ isCached k (viewCache self) ⌝ }
     {
-        let count = self.count as usize;
         let mut i: usize = 0;
         while i < Self::LIMIT {
-            if count <= i {
+            if self.count as usize <= i {
                 return false;
             }
-            let c = self.entries[i];
-            if c.is(k) {
+            if k == self.entries[i].key {
                 return true;
             }
             i += 1;
@@ -102,15 +100,13 @@ impl Cache {
         ensures shows { λ r. ⌜ viewCache r ≡ keep (stays (docs set) (viewKeys keys)) (viewCache self) ⌝ }
         ensures form { λ r. ⌜ (cacheForm self ≡ true → cacheForm r ≡ true) ⌝ }
     {
-        let count = self.count as usize;
         let mut kept = Cache::empty();
         let mut i: usize = 0;
         while i < Self::LIMIT {
-            if count <= i {
+            if self.count as usize <= i {
                 return kept;
             }
-            let c = self.entries[i];
-            kept = kept.push_if_stays(c, keys, set);
+            kept = kept.push_if_stays(self.entries[i], keys, set);
             i += 1;
         }
         kept
@@ -120,14 +116,13 @@ impl Cache {
     pub fn shows(self, keys: Keys, q: Place) -> bool
         ensures { λ r. ⌜ r ≡ any (showsIt (viewKeys keys) (viewPlace q)) (viewCache self) ⌝ }
     {
-        let count = self.count as usize;
         let mut i: usize = 0;
         while i < Self::LIMIT {
-            if count <= i {
+            if self.count as usize <= i {
                 return false;
             }
-            let c = self.entries[i];
-            if c.shows(keys, q) {
+            let key = keys.key(self.entries[i].key);
+            if key.has(q) {
                 return true;
             }
             i += 1;
@@ -140,16 +135,14 @@ impl Cache {
         ensures shows { λ r. ⌜ viewField r ≡ cachedField (viewKeys keys) (viewPlace q) (viewCache self) ⌝ }
         ensures form { λ r. ⌜ (cacheForm self ≡ true → fieldForm r ≡ true) ⌝ }
     {
-        let count = self.count as usize;
         let mut i: usize = 0;
         while i < Self::LIMIT {
-            if count <= i {
+            if self.count as usize <= i {
                 return Field::empty();
             }
-            let c = self.entries[i];
-            let k = keys.key(c.key);
+            let k = keys.key(self.entries[i].key);
             if k.has(q) {
-                return c.field(k, q);
+                return self.entries[i].field(k, q);
             }
             i += 1;
         }
@@ -169,7 +162,7 @@ impl Cache {
         let mut t = self;
         let mut j: usize = 0;
         while j + 1 < Self::LIMIT {
-            t.entries[j] = self.entries[j + 1];
+            t.entries[j] = t.entries[j + 1];
             j += 1;
         }
         t.entries[j] = none;
@@ -182,16 +175,12 @@ impl Cache {
         ensures shows { λ r. ⌜ viewCache r ≡ map (λ c. afterChanges (viewChanges cs) (viewKeys keys (c .key)) c) (viewCache self) ⌝ }
         ensures form { λ r. ⌜ (cacheForm self ≡ true → cacheForm r ≡ true) ⌝ }
     {
-        let count = self.count as usize;
-        let mut t = Cache::empty();
+        let n = self.len() as usize;
+        let mut t = self;
         let mut i: usize = 0;
-        while i < Self::LIMIT {
-            if count <= i {
-                return t;
-            }
-            let old = self.entries[i];
-            let c = old.up_to_date(keys, cs);
-            t = t.push(c);
+        while i < n {
+            let c = t.entries[i].up_to_date(keys, cs);
+            t.entries[i] = c;
             i += 1;
         }
         t

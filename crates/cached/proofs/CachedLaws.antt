@@ -9,7 +9,7 @@ use lib.ListN.{length, getD, set, drop}
 use lib.Dec.{eqb}
 use borrow.Author.Tests.{eq-eqb}
 use Rattle.rules.specs.Limits.{placeLimit}
-use Rattle.rules.specs.Lists.{any, pushed}
+use Rattle.rules.specs.Lists.{pushed}
 use Rattle.rules.specs.Values as S
 use Rattle.rules.specs.Changes as C
 use Rattle.rules.specs.Tables as M
@@ -65,20 +65,6 @@ pushed-fields t r f old q key cs i a b e = ap (λ (c : M.Cached). c .fields) a �
 pub dated-is : (c : Cached) (keys : Keys) (k : Key) (cs : List C.Update) {r : M.Cached} → viewKey k ≡ viewKeys keys (c .key) → r ≡ afterChanges cs (viewKey k) (viewCached c) → r ≡ afterChanges cs (viewKeys keys (viewCached c .key)) (viewCached c)
 unfolding viewCached
 dated-is c keys k cs e h = h ∙ ap (λ (qs : List S.Place). afterChanges cs qs (viewCached c)) e
-
-pub key-is : (c : Cached) (k : ℕ) → eqb k (c .key) ≡ eqb k (viewCached c .key)
-unfolding viewCached
-key-is c k = refl
-
-module _ (c : Cached) (keys : Keys) (k : Key) (e : viewKey k ≡ viewKeys keys (c .key)) where
-  pub shows-is : (q : Place) {r : Bool} → r ≡ any (S.samePlace (viewPlace q)) (viewKey k) → r ≡ D.showsIt (viewKeys keys) (viewPlace q) (viewCached c)
-  unfolding D.showsIt viewCached
-  shows-is q h = h ∙ ap (any (S.samePlace (viewPlace q))) e
-
-  -- the field of a place, by the table of keys
-  pub field-of : (q : Place) {r : S.Field} → r ≡ D.fieldAt (viewPlace q) (viewKey k) (viewCached c .fields) → r ≡ D.fieldAt (viewPlace q) (viewKeys keys (viewCached c .key)) (viewCached c .fields)
-  unfolding viewCached
-  field-of q h = h ∙ rw e
 
 module _ (c : Cached) (l : length (c .fields) ≡ 4) (f : Field) where
   pub field-room : c .count < 4 → viewCached (record { key = c .key; count = c .count + 1; fields = set (c .fields) (c .count) f }) ≡ withField (viewField f) (viewCached c)

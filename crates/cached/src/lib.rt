@@ -2,8 +2,7 @@
 ghost use mathlib.Core.Path.{_≡_};
 ghost use mathlib.Core.Bool.{true};
 ghost use mathlib.Core.List.{[]};
-ghost use lib.Dec.{eqb};
-ghost use Rattle.rules.specs.Reading.{showsIt, fieldAt};
+ghost use Rattle.rules.specs.Reading.{fieldAt};
 ghost use Rattle.keys.specs.View.{viewPlace, viewKey, viewKeys};
 ghost use Rattle.field.specs.View.{viewField, fieldForm};
 ghost use Rattle.changes.specs.View.{viewChanges};
@@ -36,21 +35,6 @@ impl Cached {
         }
     }
 
-    // Is it the key of a number?
-    pub fn is(self, k: u8) -> bool
-        ensures { λ r. ⌜ r ≡ eqb k (viewCached self .key) ⌝ }
-    {
-        k == self.key
-    }
-
-    // Does it show a place?
-    pub fn shows(self, keys: Keys, q: Place) -> bool
-        ensures { λ r. ⌜ r ≡ showsIt (viewKeys keys) (viewPlace q) (viewCached self) ⌝ }
-    {
-        let k = keys.key(self.key);
-        k.has(q)
-    }
-
     // One more field, if there is room.
     pub fn push(self, f: Field) -> Self
         ensures shows { λ r. ⌜ viewCached r ≡ withField (viewField f) (viewCached self) ⌝ }
@@ -71,18 +55,15 @@ impl Cached {
         ensures shows { λ r. ⌜ viewField r ≡ fieldAt (viewPlace q) (viewKey key) (viewCached self .fields) ⌝ }
         ensures form { λ r. ⌜ (cachedForm self ≡ true → fieldForm r ≡ true) ⌝ }
     {
-        let places = key.count as usize;
-        let count = self.count as usize;
         let mut i: usize = 0;
         while i < Key::LIMIT {
-            if places <= i {
+            if key.count as usize <= i {
                 return Field::empty();
             }
-            if count <= i {
+            if self.count as usize <= i {
                 return Field::empty();
             }
-            let p = key.places[i];
-            if q.is(p) {
+            if q.is(key.places[i]) {
                 return self.fields[i];
             }
             i += 1;
@@ -95,17 +76,14 @@ impl Cached {
         ensures shows { λ r. ⌜ viewCached r ≡ afterChanges (viewChanges cs) (viewKey key) (viewCached self) ⌝ }
         ensures form { λ r. ⌜ (cachedForm self ≡ true → cachedForm r ≡ true) ⌝ }
     {
-        let count = self.count as usize;
         let mut t = Cached::of(self.key);
         let mut i: usize = 0;
         while i < Key::LIMIT {
-            if count <= i {
+            if self.count as usize <= i {
                 return t;
             }
             let q = key.place(i as u8);
-            let old = self.fields[i];
-            let f = cs.run(q, old);
-            t = t.push(f);
+            t = t.push(cs.run(q, self.fields[i]));
             i += 1;
         }
         t

@@ -8,8 +8,7 @@ use Rattle.lists.proofs.Loops.{length-mapped}
 use Rattle.lists.proofs.Views.{Seeking, seek-start, seek-hit, seek-next, seek-end, seek-past}
 use Rattle.cached.specs.View.{viewCached}
 use Rattle.cache.specs.View.{viewCache}
-use Rattle.cache.proofs.CacheLaws.{entry-form}
-use Rattle.cached.proofs.CachedLaws.{shows-is, field-of}
+use Rattle.cache.proofs.CacheLaws.{shows-is, field-of, entry-form}
 use Rattle.cache.proofs.Cache.field.Statement.{statement}
 use Rattle.cache.proofs.Cache.field.Tie as tie
 use Rattle.cache.proofs.Cache.field.Reads as reads
@@ -20,19 +19,19 @@ use Rattle.keys.proofs.Key.has.Reads as has-reads
 use Rattle.keys.proofs.Keys.key.Reads as key-reads
 
 abbrev Inv-loop : tie.InvT-loop
-Inv-loop keys q self count i₀ i =
-    Seeking viewCached (D.showsIt (viewKeys keys) (viewPlace q)) (λ c. D.fieldAt (viewPlace q) (viewKeys keys (c .key)) (c .fields)) S.absent count 16 (self .entries)
+Inv-loop keys q self i₀ i =
+    Seeking viewCached (D.showsIt (viewKeys keys) (viewPlace q)) (λ c. D.fieldAt (viewPlace q) (viewKeys keys (c .key)) (c .fields)) S.absent (self .count) 16 (self .entries)
     (D.cachedField (viewKeys keys) (viewPlace q) (viewCache self)) i
 
 abbrev μ-loop : tie.MeasureT-loop
-μ-loop keys q self count i₀ i = 16 - i
-
-cast-count : tie.Need-cast-count Inv-loop μ-loop
-cast-count c = search needs
+μ-loop keys q self i₀ i = 16 - i
 
 loop-holds : tie.Need-loop-holds Inv-loop μ-loop
 unfolding viewCache
 loop-holds c = search (seek-start, length-mapped)
+
+cast-if1 : tie.Need-cast-if1 Inv-loop μ-loop
+cast-if1 c = search needs
 
 empty-requires : tie.Need-empty-requires Inv-loop μ-loop
 empty-requires c κs = search needs
@@ -40,11 +39,11 @@ empty-requires c κs = search needs
 returns : tie.Need-returns Inv-loop μ-loop
 returns c = (search (seek-end, needs), λ f. c .empty .ensures .1)
 
-mul-c : tie.Need-mul-c Inv-loop μ-loop
-mul-c c = search needs
+mul-key : tie.Need-mul-key Inv-loop μ-loop
+mul-key c = search needs
 
-element-copy-out-c : tie.Need-element-copy-out-c Inv-loop μ-loop
-element-copy-out-c c = search needs
+element-copy-out-key : tie.Need-element-copy-out-key Inv-loop μ-loop
+element-copy-out-key c = search needs
 
 key-requires : tie.Need-key-requires Inv-loop μ-loop
 key-requires c κs = search needs
@@ -52,14 +51,19 @@ key-requires c κs = search needs
 has-requires : tie.Need-has-requires Inv-loop μ-loop
 has-requires c κs = search needs
 
+mul-field : tie.Need-mul-field Inv-loop μ-loop
+mul-field c = search needs
+
+element-copy-out-field : tie.Need-element-copy-out-field Inv-loop μ-loop
+element-copy-out-field c = search needs
+
 field-requires : tie.Need-field-requires Inv-loop μ-loop
 field-requires c κs = search needs
 
 returns-2 : tie.Need-returns-2 Inv-loop μ-loop
 returns-2 c = (
-  seek-hit (c .before .before .before .before .before .before .before .loop .inv) _ (search needs) (search needs)
-      (shows-is _ _ _ (c .before .before .before .key .ensures .0) _ (c .before .before .has .ensures)) (c .before .if2 .taken)
-      (field-of _ _ _ (c .before .before .before .key .ensures .0) _ (c .field .ensures .0)),
+  seek-hit (c .before .before .before .before .before .before .before .loop .inv) _ (search needs) (search needs) (shows-is _ _ _ (c .before .before .before .before .key .ensures .0) _ (c .before .before .before .has .ensures))
+      (c .before .before .if2 .taken) (field-of _ _ _ (c .before .before .before .before .key .ensures .0) _ (c .field .ensures .0)),
   λ f. c .field .ensures .1 (entry-form _ _ _ (search needs) f),
 )
 
@@ -70,7 +74,7 @@ loop-less : tie.Need-loop-less Inv-loop μ-loop
 loop-less c = search needs
 
 loop-again : tie.Need-loop-again Inv-loop μ-loop
-loop-again c = seek-next (c .before .before .before .before .before .before .loop .inv) _ (search needs) (search needs) (shows-is _ _ _ (c .before .before .key .ensures .0) _ (c .before .has .ensures)) (c .if2 .left)
+loop-again c = seek-next (c .before .before .before .before .before .loop .inv) _ (search needs) (search needs) (shows-is _ _ _ (c .before .before .key .ensures .0) _ (c .before .has .ensures)) (c .if2 .left)
 
 empty-requires-2 : tie.Need-empty-requires-2 Inv-loop μ-loop
 empty-requires-2 c κs = search needs
@@ -84,14 +88,16 @@ field-spec =
     (tie.spec
     Inv-loop
     μ-loop
-    cast-count
     loop-holds
+    cast-if1
     empty-requires
     returns
-    mul-c
-    element-copy-out-c
+    mul-key
+    element-copy-out-key
     key-requires
     has-requires
+    mul-field
+    element-copy-out-field
     field-requires
     returns-2
     add-i

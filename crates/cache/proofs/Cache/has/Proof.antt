@@ -1,46 +1,45 @@
 -- `Cache::has` meets its contract.
 use borrow.Author.Needs.{needs}
 use Prim.Native.Nat.{_-_}
+use mathlib.Core.Path.{refl}
 use mathlib.Core.Bool.{true, false}
 use lib.Dec.{eqb}
+use borrow.Author.Tests.{eq-eqb, ne-eqb}
 use Rattle.rules.specs.Tables as M
 use Rattle.lists.proofs.Loops.{length-mapped}
 use Rattle.lists.proofs.Views.{Seeking, seek-start, seek-hit, seek-next, seek-end, seek-past}
 use Rattle.cached.specs.View.{viewCached}
 use Rattle.cache.specs.View.{viewCache}
+use Rattle.cache.proofs.CacheLaws.{key-is}
 use Rattle.cache.proofs.Cache.has.Statement.{statement}
 use Rattle.cache.proofs.Cache.has.Tie as tie
 use Rattle.cache.proofs.Cache.has.Reads as reads
 use Rattle.cache.proofs.Cache.has.Lts as lts
-use Rattle.cached.proofs.Cached.is.Reads as is-reads
 
 abbrev Inv-loop : tie.InvT-loop
-Inv-loop k self count i₀ i = Seeking viewCached (λ c. eqb k (c .key)) (λ c. true) false count 16 (self .entries) (M.isCached k (viewCache self)) i
+Inv-loop k self i₀ i = Seeking viewCached (λ c. eqb k (c .key)) (λ c. true) false (self .count) 16 (self .entries) (M.isCached k (viewCache self)) i
 
 abbrev μ-loop : tie.MeasureT-loop
-μ-loop k self count i₀ i = 16 - i
-
-cast-count : tie.Need-cast-count Inv-loop μ-loop
-cast-count c = search needs
+μ-loop k self i₀ i = 16 - i
 
 loop-holds : tie.Need-loop-holds Inv-loop μ-loop
 unfolding viewCache
 loop-holds c = search (seek-start, length-mapped)
 
+cast-if1 : tie.Need-cast-if1 Inv-loop μ-loop
+cast-if1 c = search needs
+
 returns : tie.Need-returns Inv-loop μ-loop
 returns c = search seek-end
 
-mul-c : tie.Need-mul-c Inv-loop μ-loop
-mul-c c = search needs
+mul-if2 : tie.Need-mul-if2 Inv-loop μ-loop
+mul-if2 c = search needs
 
-element-copy-out-c : tie.Need-element-copy-out-c Inv-loop μ-loop
-element-copy-out-c c = search needs
-
-is-requires : tie.Need-is-requires Inv-loop μ-loop
-is-requires c κs = search needs
+element-copy-out-if2 : tie.Need-element-copy-out-if2 Inv-loop μ-loop
+element-copy-out-if2 c = search needs
 
 returns-2 : tie.Need-returns-2 Inv-loop μ-loop
-returns-2 c = search seek-hit
+returns-2 c = seek-hit (c .before .before .before .loop .inv) _ (search needs) (search needs) (key-is _ _) (eq-eqb _ _ (c .if2 .taken)) refl
 
 add-i : tie.Need-add-i Inv-loop μ-loop
 add-i c = search needs
@@ -49,7 +48,7 @@ loop-less : tie.Need-loop-less Inv-loop μ-loop
 loop-less c = search needs
 
 loop-again : tie.Need-loop-again Inv-loop μ-loop
-loop-again c = search seek-next
+loop-again c = seek-next (c .before .before .before .loop .inv) _ (search needs) (search needs) (key-is _ _) (ne-eqb _ _ (c .if2 .left))
 
 returns-3 : tie.Need-returns-3 Inv-loop μ-loop
 returns-3 c = search seek-past
@@ -60,12 +59,11 @@ has-spec =
     (tie.spec
     Inv-loop
     μ-loop
-    cast-count
     loop-holds
+    cast-if1
     returns
-    mul-c
-    element-copy-out-c
-    is-requires
+    mul-if2
+    element-copy-out-if2
     returns-2
     add-i
     loop-less

@@ -1,6 +1,7 @@
 -- `Cache::shows` meets its contract.
 use borrow.Author.Needs.{needs}
 use Prim.Native.Nat.{_-_}
+use mathlib.Core.Path.{refl}
 use mathlib.Core.Bool.{true, false}
 use Rattle.rules.specs.Lists.{any}
 use Rattle.rules.specs.Reading as D
@@ -9,39 +10,44 @@ use Rattle.lists.proofs.Loops.{length-mapped}
 use Rattle.lists.proofs.Views.{Seeking, seek-start, seek-hit, seek-next, seek-end, seek-past}
 use Rattle.cached.specs.View.{viewCached}
 use Rattle.cache.specs.View.{viewCache}
+use Rattle.cache.proofs.CacheLaws.{shows-is}
 use Rattle.cache.proofs.Cache.shows.Statement.{statement}
 use Rattle.cache.proofs.Cache.shows.Tie as tie
 use Rattle.cache.proofs.Cache.shows.Reads as reads
 use Rattle.cache.proofs.Cache.shows.Lts as lts
-use Rattle.cached.proofs.Cached.shows.Reads as shows-reads
+use Rattle.keys.proofs.Key.has.Reads as has-reads
+use Rattle.keys.proofs.Keys.key.Reads as key-reads
 
 abbrev Inv-loop : tie.InvT-loop
-Inv-loop keys q self count i₀ i = Seeking viewCached (D.showsIt (viewKeys keys) (viewPlace q)) (λ c. true) false count 16 (self .entries) (any (D.showsIt (viewKeys keys) (viewPlace q)) (viewCache self)) i
+Inv-loop keys q self i₀ i = Seeking viewCached (D.showsIt (viewKeys keys) (viewPlace q)) (λ c. true) false (self .count) 16 (self .entries) (any (D.showsIt (viewKeys keys) (viewPlace q)) (viewCache self)) i
 
 abbrev μ-loop : tie.MeasureT-loop
-μ-loop keys q self count i₀ i = 16 - i
-
-cast-count : tie.Need-cast-count Inv-loop μ-loop
-cast-count c = search needs
+μ-loop keys q self i₀ i = 16 - i
 
 loop-holds : tie.Need-loop-holds Inv-loop μ-loop
 unfolding viewCache
 loop-holds c = search (seek-start, length-mapped)
 
+cast-if1 : tie.Need-cast-if1 Inv-loop μ-loop
+cast-if1 c = search needs
+
 returns : tie.Need-returns Inv-loop μ-loop
 returns c = search seek-end
 
-mul-c : tie.Need-mul-c Inv-loop μ-loop
-mul-c c = search needs
+mul-key : tie.Need-mul-key Inv-loop μ-loop
+mul-key c = search needs
 
-element-copy-out-c : tie.Need-element-copy-out-c Inv-loop μ-loop
-element-copy-out-c c = search needs
+element-copy-out-key : tie.Need-element-copy-out-key Inv-loop μ-loop
+element-copy-out-key c = search needs
 
-shows-requires : tie.Need-shows-requires Inv-loop μ-loop
-shows-requires c κs = search needs
+key-requires : tie.Need-key-requires Inv-loop μ-loop
+key-requires c κs = search needs
+
+has-requires : tie.Need-has-requires Inv-loop μ-loop
+has-requires c κs = search needs
 
 returns-2 : tie.Need-returns-2 Inv-loop μ-loop
-returns-2 c = search seek-hit
+returns-2 c = seek-hit (c .before .before .before .before .before .loop .inv) _ (search needs) (search needs) (shows-is _ _ _ (c .before .before .key .ensures .0) _ (c .before .has .ensures)) (c .if2 .taken) refl
 
 add-i : tie.Need-add-i Inv-loop μ-loop
 add-i c = search needs
@@ -50,7 +56,7 @@ loop-less : tie.Need-loop-less Inv-loop μ-loop
 loop-less c = search needs
 
 loop-again : tie.Need-loop-again Inv-loop μ-loop
-loop-again c = search seek-next
+loop-again c = seek-next (c .before .before .before .before .before .loop .inv) _ (search needs) (search needs) (shows-is _ _ _ (c .before .before .key .ensures .0) _ (c .before .has .ensures)) (c .if2 .left)
 
 returns-3 : tie.Need-returns-3 Inv-loop μ-loop
 returns-3 c = search seek-past
@@ -61,12 +67,13 @@ shows-spec =
     (tie.spec
     Inv-loop
     μ-loop
-    cast-count
     loop-holds
+    cast-if1
     returns
-    mul-c
-    element-copy-out-c
-    shows-requires
+    mul-key
+    element-copy-out-key
+    key-requires
+    has-requires
     returns-2
     add-i
     loop-less

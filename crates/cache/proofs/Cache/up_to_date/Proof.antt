@@ -1,59 +1,46 @@
 -- `Cache::up_to_date` meets its contract.
 use borrow.Author.Needs.{needs}
 use Prim.Native.Nat.{_-_}
-use mathlib.Core.Path.{_≡_, _∙_, ap}
-use mathlib.Core.Bool.{true}
-use mathlib.Core.List.{map}
-use Rattle.rules.specs.Limits.{cacheLimit}
-use Rattle.rules.specs.Lists.{pushed}
 use Rattle.keys.specs.View.{viewKeys}
 use Rattle.changes.specs.View.{viewChanges}
 use Rattle.lists.proofs.Loops.{length-mapped}
-use Rattle.lists.proofs.Views.{Mapping, map-start, map-next, map-end, map-past, map-is}
-use Rattle.cached.specs.View.{viewCached, afterChanges}
-use Rattle.cache.specs.View.{viewCache}
-use Rattle.cache.specs.Form.{cacheForm}
-use Rattle.cache.proofs.CacheLaws.{entry-form}
+use Rattle.cache.proofs.CacheLaws.{Dating, date-start, date-next, date-end}
 use Rattle.cache.proofs.Cache.up_to_date.Statement.{statement}
 use Rattle.cache.proofs.Cache.up_to_date.Tie as tie
 use Rattle.cache.proofs.Cache.up_to_date.Reads as reads
 use Rattle.cache.proofs.Cache.up_to_date.Lts as lts
-use Rattle.cache.proofs.Cache.empty.Reads as empty-reads
-use Rattle.cache.proofs.Cache.push.Reads as push-reads
+use Rattle.cache.proofs.Cache.len.Reads as len-reads
 use Rattle.cached.proofs.Cached.up_to_date.Reads as up-to-date-reads
 
 abbrev Inv-loop : tie.InvT-loop
-Inv-loop keys cs self count t₀ i₀ t i =
-    Mapping viewCached (λ j c. afterChanges (viewChanges cs) (viewKeys keys (c .key)) c) count 16 (self .entries) (map (λ c. afterChanges (viewChanges cs) (viewKeys keys (c .key)) c) (viewCache self)) (viewCache t) i
-    × (cacheForm self ≡ true → cacheForm t ≡ true)
+Inv-loop keys cs n t₀ i₀ t i = Dating (viewChanges cs) (viewKeys keys) t₀ t n i
 
 abbrev μ-loop : tie.MeasureT-loop
-μ-loop keys cs self count t₀ i₀ t i = 16 - i
+μ-loop keys cs n t₀ i₀ t i = 16 - i
 
-cast-count : tie.Need-cast-count Inv-loop μ-loop
-cast-count c = search needs
+len-requires : tie.Need-len-requires Inv-loop μ-loop
+len-requires c κs = search needs
 
-empty-requires : tie.Need-empty-requires Inv-loop μ-loop
-empty-requires c κs = search needs
+cast-n : tie.Need-cast-n Inv-loop μ-loop
+cast-n c = search needs
 
 loop-holds : tie.Need-loop-holds Inv-loop μ-loop
-unfolding viewCache
-loop-holds c = (map-start (search length-mapped) (c .empty .ensures .0) (map-is _ _ _), λ f. c .empty .ensures .1)
+loop-holds c = search (date-start, length-mapped, needs)
 
-returns : tie.Need-returns Inv-loop μ-loop
-returns c = (search (map-end, needs), c .before .before .loop .inv .1)
+mul-up-to-date : tie.Need-mul-up-to-date Inv-loop μ-loop
+mul-up-to-date c = search needs
 
-mul-old : tie.Need-mul-old Inv-loop μ-loop
-mul-old c = search needs
-
-element-copy-out-old : tie.Need-element-copy-out-old Inv-loop μ-loop
-element-copy-out-old c = search needs
+element-copy-out-up-to-date : tie.Need-element-copy-out-up-to-date Inv-loop μ-loop
+element-copy-out-up-to-date c = search needs
 
 up-to-date-requires : tie.Need-up-to-date-requires Inv-loop μ-loop
 up-to-date-requires c κs = search needs
 
-push-requires : tie.Need-push-requires Inv-loop μ-loop
-push-requires c κs = search needs
+mul-c : tie.Need-mul-c Inv-loop μ-loop
+mul-c c = search needs
+
+element-set-from-c : tie.Need-element-set-from-c Inv-loop μ-loop
+element-set-from-c c = search needs
 
 add-i : tie.Need-add-i Inv-loop μ-loop
 add-i c = search needs
@@ -62,13 +49,10 @@ loop-less : tie.Need-loop-less Inv-loop μ-loop
 loop-less c = search needs
 
 loop-again : tie.Need-loop-again Inv-loop μ-loop
-loop-again c = (
-  map-next (c .before .before .before .before .before .loop .inv .0) _ (search needs) (search needs) (c .push .ensures .0 ∙ ap (pushed cacheLimit (viewCache _)) (c .before .up-to-date .ensures .0)),
-  λ f. c .push .ensures .1 (c .before .up-to-date .ensures .1 (entry-form _ _ _ (search needs) f)) (c .before .before .before .before .before .loop .inv .1 f),
-)
+loop-again c = date-next (c .before .before .before .loop .inv) _ _ (search needs) (c .up-to-date .ensures .0) (c .up-to-date .ensures .1)
 
-returns-2 : tie.Need-returns-2 Inv-loop μ-loop
-returns-2 c = (search (map-past, needs), c .before .loop .inv .1)
+returns : tie.Need-returns Inv-loop μ-loop
+returns c = (date-end (c .before .loop .inv) (search needs), c .before .loop .inv .form)
 
 pub up-to-date-spec : {M : Type 1} → statement M
 up-to-date-spec =
@@ -76,15 +60,15 @@ up-to-date-spec =
     (tie.spec
     Inv-loop
     μ-loop
-    cast-count
-    empty-requires
+    len-requires
+    cast-n
     loop-holds
-    returns
-    mul-old
-    element-copy-out-old
+    mul-up-to-date
+    element-copy-out-up-to-date
     up-to-date-requires
-    push-requires
+    mul-c
+    element-set-from-c
     add-i
     loop-less
     loop-again
-    returns-2)
+    returns)

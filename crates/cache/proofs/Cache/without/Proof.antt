@@ -21,15 +21,12 @@ use Rattle.cache.proofs.Cache.empty.Reads as empty-reads
 use Rattle.cache.proofs.Cache.push_if_stays.Reads as push-if-stays-reads
 
 abbrev Inv-loop : tie.InvT-loop
-Inv-loop keys set self count kept₀ i₀ kept i =
-    Keeping viewCached (E.stays (docs set) (viewKeys keys)) count 16 (self .entries) (keep (E.stays (docs set) (viewKeys keys)) (viewCache self)) (viewCache kept) i
+Inv-loop keys set self kept₀ i₀ kept i =
+    Keeping viewCached (E.stays (docs set) (viewKeys keys)) (self .count) 16 (self .entries) (keep (E.stays (docs set) (viewKeys keys)) (viewCache self)) (viewCache kept) i
     × (cacheForm self ≡ true → cacheForm kept ≡ true)
 
 abbrev μ-loop : tie.MeasureT-loop
-μ-loop keys set self count kept₀ i₀ kept i = 16 - i
-
-cast-count : tie.Need-cast-count Inv-loop μ-loop
-cast-count c = search needs
+μ-loop keys set self kept₀ i₀ kept i = 16 - i
 
 empty-requires : tie.Need-empty-requires Inv-loop μ-loop
 empty-requires c κs = search needs
@@ -38,14 +35,17 @@ loop-holds : tie.Need-loop-holds Inv-loop μ-loop
 unfolding viewCache
 loop-holds c = (search (keep-start, length-mapped, needs), λ f. c .empty .ensures .1)
 
+cast-if1 : tie.Need-cast-if1 Inv-loop μ-loop
+cast-if1 c = search needs
+
 returns : tie.Need-returns Inv-loop μ-loop
 returns c = (search (keep-end, needs), c .before .before .loop .inv .1)
 
-mul-c : tie.Need-mul-c Inv-loop μ-loop
-mul-c c = search needs
+mul-push-if-stays : tie.Need-mul-push-if-stays Inv-loop μ-loop
+mul-push-if-stays c = search needs
 
-element-copy-out-c : tie.Need-element-copy-out-c Inv-loop μ-loop
-element-copy-out-c c = search needs
+element-copy-out-push-if-stays : tie.Need-element-copy-out-push-if-stays Inv-loop μ-loop
+element-copy-out-push-if-stays c = search needs
 
 push-if-stays-requires : tie.Need-push-if-stays-requires Inv-loop μ-loop
 push-if-stays-requires c κs = search needs
@@ -68,12 +68,12 @@ without-spec =
     (tie.spec
     Inv-loop
     μ-loop
-    cast-count
     empty-requires
     loop-holds
+    cast-if1
     returns
-    mul-c
-    element-copy-out-c
+    mul-push-if-stays
+    element-copy-out-push-if-stays
     push-if-stays-requires
     add-i
     loop-less

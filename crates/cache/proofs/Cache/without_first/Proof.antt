@@ -1,9 +1,8 @@
 -- `Cache::without_first` meets its contract.
 use borrow.Author.Needs.{needs}
-use mathlib.Core.Path.{refl}
 use Prim.Native.Nat.{_-_}
-use Rattle.lists.proofs.Loops.{length-mapped}
-use Rattle.lists.proofs.Loops.{Removing, remove-start, remove-next}
+use Rattle.lists.proofs.Loops.{length-mapped, Removing, remove-start}
+use Rattle.cache.proofs.Ends.{remove-here}
 use Rattle.cache.proofs.CacheLaws.{first-none, first-gone, first-form}
 use Rattle.cache.proofs.Cache.without_first.Statement.{statement}
 use Rattle.cache.proofs.Cache.without_first.Tie as tie
@@ -13,10 +12,10 @@ use Rattle.cache.proofs.Cache.len.Reads as len-reads
 use Rattle.cached.proofs.Cached.of.Reads as of-reads
 
 abbrev Inv-loop : tie.InvT-loop
-Inv-loop self n none t₀ j₀ t j = Removing none 0 (self .entries) 16 (t .entries) j
+Inv-loop n none t₀ j₀ t j = Removing none 0 (t₀ .entries) 16 (t .entries) j
 
 abbrev μ-loop : tie.MeasureT-loop
-μ-loop self n none t₀ j₀ t j = 16 - j
+μ-loop n none t₀ j₀ t j = 16 - j
 
 len-requires : tie.Need-len-requires Inv-loop μ-loop
 len-requires c κs = search needs
@@ -42,8 +41,8 @@ mul-t c = search needs
 element-copy-out-t : tie.Need-element-copy-out-t Inv-loop μ-loop
 element-copy-out-t c = search needs
 
-mul-t15 : tie.Need-mul-t15 Inv-loop μ-loop
-mul-t15 c = search needs
+mul-t13 : tie.Need-mul-t13 Inv-loop μ-loop
+mul-t13 c = search needs
 
 element-set-from-t : tie.Need-element-set-from-t Inv-loop μ-loop
 element-set-from-t c = search needs
@@ -55,7 +54,7 @@ loop-less : tie.Need-loop-less Inv-loop μ-loop
 loop-less c = search needs
 
 loop-again : tie.Need-loop-again Inv-loop μ-loop
-loop-again c = remove-next (c .before .before .loop .inv) _ (search needs) refl
+loop-again c = remove-here (c .before .before .loop .inv) _ (search needs)
 
 mul-none : tie.Need-mul-none Inv-loop μ-loop
 mul-none c = search needs
@@ -83,7 +82,7 @@ without-first-spec =
     add-t
     mul-t
     element-copy-out-t
-    mul-t15
+    mul-t13
     element-set-from-t
     add-j
     loop-less

@@ -25,15 +25,12 @@ use Rattle.changes.proofs.Changes.run.Reads as run-reads
 use Rattle.keys.proofs.Key.place.Reads as place-reads
 
 abbrev Inv-loop : tie.InvT-loop
-Inv-loop key cs self count t₀ i₀ t i =
-    Mapping viewField (λ j f. C.run (viewChanges cs) (getD (viewKey key) j noPlace) f) count 4 (self .fields) (mapFrom (λ j f. C.run (viewChanges cs) (getD (viewKey key) j noPlace) f) 0 (viewCached self .fields)) (viewCached t .fields) i
+Inv-loop key cs self t₀ i₀ t i =
+    Mapping viewField (λ j f. C.run (viewChanges cs) (getD (viewKey key) j noPlace) f) (self .count) 4 (self .fields) (mapFrom (λ j f. C.run (viewChanges cs) (getD (viewKey key) j noPlace) f) 0 (viewCached self .fields)) (viewCached t .fields) i
     × ((viewCached t .key ≡ self .key) × (cachedForm self ≡ true → cachedForm t ≡ true))
 
 abbrev μ-loop : tie.MeasureT-loop
-μ-loop key cs self count t₀ i₀ t i = 4 - i
-
-cast-count : tie.Need-cast-count Inv-loop μ-loop
-cast-count c = search needs
+μ-loop key cs self t₀ i₀ t i = 4 - i
 
 of-requires : tie.Need-of-requires Inv-loop μ-loop
 of-requires c κs = search needs
@@ -41,6 +38,9 @@ of-requires c κs = search needs
 loop-holds : tie.Need-loop-holds Inv-loop μ-loop
 unfolding viewCached
 loop-holds c = (map-start (search length-mapped) (ap (λ (x : M.Cached). x .fields) (c .of .ensures .0)) refl, (ap (λ (x : M.Cached). x .key) (c .of .ensures .0), λ f. c .of .ensures .1))
+
+cast-if1 : tie.Need-cast-if1 Inv-loop μ-loop
+cast-if1 c = search needs
 
 returns : tie.Need-returns Inv-loop μ-loop
 returns c = (after-is _ _ _ _ (c .before .before .loop .inv .1 .0) (search (map-end, needs)), c .before .before .loop .inv .1 .1)
@@ -51,11 +51,11 @@ cast-place c = search needs
 place-requires : tie.Need-place-requires Inv-loop μ-loop
 place-requires c κs = search needs
 
-mul-old : tie.Need-mul-old Inv-loop μ-loop
-mul-old c = search needs
+mul-run : tie.Need-mul-run Inv-loop μ-loop
+mul-run c = search needs
 
-element-copy-out-old : tie.Need-element-copy-out-old Inv-loop μ-loop
-element-copy-out-old c = search needs
+element-copy-out-run : tie.Need-element-copy-out-run Inv-loop μ-loop
+element-copy-out-run c = search needs
 
 run-requires : tie.Need-run-requires Inv-loop μ-loop
 run-requires c κs = search needs
@@ -84,14 +84,14 @@ after-spec =
     (tie.spec
     Inv-loop
     μ-loop
-    cast-count
     of-requires
     loop-holds
+    cast-if1
     returns
     cast-place
     place-requires
-    mul-old
-    element-copy-out-old
+    mul-run
+    element-copy-out-run
     run-requires
     push-requires
     add-i

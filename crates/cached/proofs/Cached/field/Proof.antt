@@ -11,19 +11,16 @@ use Rattle.field.proofs.Field.empty.Reads as empty-reads
 use Rattle.keys.proofs.Place.is.Reads as is-reads
 
 abbrev Inv-loop : tie.InvT-loop
-Inv-loop q self key places count i₀ i = Reading self key q i
+Inv-loop q self key i₀ i = Reading self key q i
 
 abbrev μ-loop : tie.MeasureT-loop
-μ-loop q self key places count i₀ i = 4 - i
-
-cast-places : tie.Need-cast-places Inv-loop μ-loop
-cast-places c = search needs
-
-cast-count : tie.Need-cast-count Inv-loop μ-loop
-cast-count c = search needs
+μ-loop q self key i₀ i = 4 - i
 
 loop-holds : tie.Need-loop-holds Inv-loop μ-loop
 loop-holds c = search (read-start, length-mapped, needs)
+
+cast-if1 : tie.Need-cast-if1 Inv-loop μ-loop
+cast-if1 c = search needs
 
 empty-requires : tie.Need-empty-requires Inv-loop μ-loop
 empty-requires c κs = search needs
@@ -31,17 +28,20 @@ empty-requires c κs = search needs
 returns : tie.Need-returns Inv-loop μ-loop
 returns c = (search (read-no-place, needs), λ f. c .empty .ensures .1)
 
+cast-if2 : tie.Need-cast-if2 Inv-loop μ-loop
+cast-if2 c = search needs
+
 empty-requires-2 : tie.Need-empty-requires-2 Inv-loop μ-loop
 empty-requires-2 c κs = search needs
 
 returns-2 : tie.Need-returns-2 Inv-loop μ-loop
 returns-2 c = (search (read-no-field, needs), λ f. c .empty2 .ensures .1)
 
-mul-p : tie.Need-mul-p Inv-loop μ-loop
-mul-p c = search needs
+mul-is : tie.Need-mul-is Inv-loop μ-loop
+mul-is c = search needs
 
-element-copy-out-p : tie.Need-element-copy-out-p Inv-loop μ-loop
-element-copy-out-p c = search needs
+element-copy-out-is : tie.Need-element-copy-out-is Inv-loop μ-loop
+element-copy-out-is c = search needs
 
 is-requires : tie.Need-is-requires Inv-loop μ-loop
 is-requires c κs = search needs
@@ -76,15 +76,15 @@ field-spec =
     (tie.spec
     Inv-loop
     μ-loop
-    cast-places
-    cast-count
     loop-holds
+    cast-if1
     empty-requires
     returns
+    cast-if2
     empty-requires-2
     returns-2
-    mul-p
-    element-copy-out-p
+    mul-is
+    element-copy-out-is
     is-requires
     mul-result
     element-copy-out-result
