@@ -22,6 +22,6 @@ module _ (b : Batch) (rows : List ℕ) (q : S.Place) (f : S.Field) {t : Bool} (a
   unfolding carry viewBatch
   carried-row e = rw (← a, e) refl
 
-  pub carried-now : {r : S.Field} → t ≡ false → r ≡ C.run (viewBatch b .changes) q f → r ≡ carry rows q f (viewBatch b)
+  pub carried-now : {r : S.Field} → t ≡ false → r ≡ C.run (viewChanges (b .changes)) q f → r ≡ carry rows q f (viewBatch b)
   unfolding carry viewBatch
   carried-now e h = h ∙ rw (← a, e) refl

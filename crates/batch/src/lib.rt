@@ -1,8 +1,7 @@
 // A committed session that waits for a worker.
 ghost use mathlib.Core.Path.{_≡_};
 ghost use mathlib.Core.Bool.{true};
-ghost use lib.Dec.{eqb};
-ghost use Rattle.rules.specs.Changes.{run, setsIt};
+ghost use Rattle.rules.specs.Changes.{setsIt};
 ghost use Rattle.keys.specs.View.{viewPlace};
 ghost use Rattle.field.specs.View.{viewField, fieldForm};
 ghost use Rattle.rows.specs.View.{viewRows};
@@ -27,26 +26,11 @@ impl Batch {
         Self { number: 0, changes }
     }
 
-    pub fn is(self, n: u32) -> bool
-        ensures { λ r. ⌜ r ≡ eqb n (viewBatch self .number) ⌝ }
-    {
-        n == self.number
-    }
-
+    // It sets or unsets the place.
     pub fn sets(self, q: Place) -> bool
         ensures { λ r. ⌜ r ≡ setsIt (viewBatch self .changes) (viewPlace q) ⌝ }
     {
-        let changes = self.changes;
-        changes.sets(q)
-    }
-
-    // A place's field after it.
-    pub fn run(self, q: Place, f: Field) -> Field
-        ensures shows { λ r. ⌜ viewField r ≡ run (viewBatch self .changes) (viewPlace q) (viewField f) ⌝ }
-        ensures form { λ r. ⌜ (fieldForm f ≡ true → fieldForm r ≡ true) ⌝ }
-    {
-        let changes = self.changes;
-        changes.run(q, f)
+        self.changes.sets(q)
     }
 
     // A place's field after it, if the store does not have it yet.
@@ -57,6 +41,6 @@ impl Batch {
         if rows.has(self.number) {
             return f;
         }
-        self.run(q, f)
+        self.changes.run(q, f)
     }
 }

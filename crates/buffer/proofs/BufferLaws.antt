@@ -1,18 +1,21 @@
 -- The buffer through its view: one law for each way out of a method.
-use Prim.Native.Nat.{ℕ, _<_}
+use Prim.Native.Nat.{ℕ, _+_, _<_, min}
 use native.Mathlib.Omega.{arith}
 use mathlib.Core.Path.{_≡_, refl, sym, _∙_, ap}
 use mathlib.Core.Bool.{Bool, true, false, cond}
-use mathlib.Core.List.{List, [], _∷_, _++_}
-use lib.ListN.{length, getD, replicate}
-use Rattle.rules.specs.Lists.{has, any}
+use mathlib.Core.List.{List, [], _∷_, _++_, map}
+use lib.ListN.{length, getD, replicate, length-map}
+use lib.Seq.{take-all}
+use lib.Dec.{eqb, leb}
+use borrow.Author.Tests.{leb-true, leb-false, eq-eqb, ne-eqb}
+use Rattle.rules.specs.Lists.{has, any, from, keep}
 use Rattle.rules.specs.Values as S
 use Rattle.rules.specs.Changes as C
 use Rattle.rules.specs.Tables as M
 use Rattle.rules.proofs.Laws.{byCase, run-append}
 use Rattle.lists.specs.Find.{fold}
 use Rattle.lists.specs.Table.{counted}
-use Rattle.lists.proofs.Views.{Seeking, counted-next}
+use Rattle.lists.proofs.Views.{counted-next, counted-length, Seeking, seek-start, seek-hit, seek-next, Keeping, keep-start, Working, work-start}
 use Rattle.lists.proofs.Forms.{form-empty, used-at}
 use Rattle.batch.specs.View.{viewBatch, carry}
 use Rattle.batch.specs.Form.{batchForm, isUnused}
@@ -39,18 +42,20 @@ unfolding viewBuffer viewBatch
 oldest-is t d l n = sym (ap M.oldest (counted-next viewBatch (t .count) (t .batches) d 0 (omega (arith, n)) (omega arith)))
 
 -- ── all buffered changes ──
-pub run-all : (l : List M.Batch) (q : S.Place) (f : S.Field) → C.run (M.changesIn l) q f ≡ fold (λ g b. C.run (b .changes) q g) f l
-unfolding fold
-run-all [] q f = refl
-run-all (b ∷ l) q f = run-append (b .changes) (M.changesIn l) q f ∙ run-all l q (C.run (b .changes) q f)
-
-pub run-pending : (rows : List ℕ) (l : List M.Batch) (q : S.Place) (f : S.Field) → C.run (M.changesIn (M.pending rows l)) q f ≡ fold (carry rows q) f l
+run-pending : (rows : List ℕ) (l : List M.Batch) (q : S.Place) (f : S.Field) → C.run (M.changesIn (M.pending rows l)) q f ≡ fold (carry rows q) f l
 unfolding fold carry
 run-pending rows [] q f = refl
 run-pending rows (b ∷ l) q f =
     byCase (has (b .number) rows)
     (λ e. rw e (run-pending rows l q f))
     (λ e. rw e (run-append (b .changes) (M.changesIn (M.pending rows l)) q f ∙ run-pending rows l q (C.run (b .changes) q f)))
+
+none-pending : (l : List M.Batch) → M.pending [] l ≡ l
+none-pending [] = refl
+none-pending (b ∷ l) = ap (λ r. b ∷ r) (none-pending l)
+
+pub run-none : (rows : List ℕ) (l : List M.Batch) (q : S.Place) (f : S.Field) {r : S.Field} → rows ≡ [] → r ≡ C.run (M.changesIn (M.pending rows l)) q f → r ≡ C.run (M.changesIn l) q f
+run-none rows l q f e h = h ∙ rw (e, none-pending l) refl
 
 any-append : (p : C.Update → Bool) (a b : List C.Update) → any p (a ++ b) ≡ cond (any p a) true (any p b)
 any-append p [] b = refl
@@ -60,6 +65,42 @@ sets-any : (l : List M.Batch) (q : S.Place) → C.setsIt (M.changesIn l) q ≡ a
 sets-any [] q = refl
 sets-any (b ∷ l) q = any-append (C.sets q) (b .changes) (M.changesIn l) ∙ ap (cond (C.setsIt (b .changes) q) true) (sets-any l q)
 
-pub sets-start : (t : Buffer) (q : S.Place) → length (t .batches) ≡ 32 → Seeking viewBatch (λ b. C.setsIt (b .changes) q) (λ b. true) false (t .count) 32 (t .batches) (C.setsIt (M.changesIn (viewBuffer t)) q) 0
-unfolding viewBuffer
-sets-start t q l = record { long = l; at = omega arith; rest = sets-any (counted viewBatch (t .count) (t .batches)) q }
+-- ── a loop over the entries in use: their number n, below which an index is one of the table, and the loop's start ──
+pub within : {i n : ℕ} (m : ℕ) → i < n → n ≡ min m 32 → i < 32
+within m h e = omega arith
+
+module _ {A : Type 0} {g : M.Batch → A} {none : A} {s n i : ℕ} {xs : List Batch} {whole : A} (inv : Seeking viewBatch (λ b. eqb s (b .number)) g none n 32 xs whole i) (d : Batch) where
+  pub number-hit : {r : A} → i < 32 → i < n → s ≡ getD xs i d .number → r ≡ g (viewBatch (getD xs i d)) → r ≡ whole
+  unfolding viewBatch
+  number-hit h k e q = seek-hit inv d h k refl (eq-eqb s (getD xs i d .number) e) q
+
+  pub number-next : i < 32 → i < n → (s ≡ getD xs i d .number → ⊥) → Seeking viewBatch (λ b. eqb s (b .number)) g none n 32 xs whole (i + 1)
+  unfolding viewBatch
+  number-next h k e = seek-next inv d h k refl (ne-eqb s (getD xs i d .number) e)
+
+module _ (t : Buffer) {n : ℕ} (l : length (t .batches) ≡ 32) (e : n ≡ min (t .count) 32) where
+  used-view : viewBuffer t ≡ counted viewBatch n (t .batches)
+  unfolding viewBuffer counted
+  used-view =
+      let k = length-map (t .batches) viewBatch in
+      byCase (leb (t .count) 32)
+      (λ h. let m : n ≡ t .count = omega (arith, leb-true (t .count) 32 h) in rw m refl)
+      (λ h.
+      let w : 32 < t .count = omega (arith, leb-false (t .count) 32 h) in
+      take-all (t .count) (map viewBatch (t .batches)) (omega arith) ∙ sym (take-all n (map viewBatch (t .batches)) (omega arith)))
+
+  pub used-length : n ≡ length (viewBuffer t)
+  unfolding viewBuffer
+  used-length = e ∙ sym (counted-length viewBatch (t .count) (t .batches) 32 l)
+
+  pub seek-used : {A : Type 0} {p : M.Batch → Bool} {g : M.Batch → A} {none : A} → Seeking viewBatch p g none n 32 (t .batches) (from p g none (viewBuffer t)) 0
+  seek-used = rw used-view (seek-start l)
+
+  pub sets-used : (q : S.Place) → Seeking viewBatch (λ b. C.setsIt (b .changes) q) (λ b. true) false n 32 (t .batches) (C.setsIt (M.changesIn (viewBuffer t)) q) 0
+  sets-used q = rw (sets-any (viewBuffer t) q) seek-used
+
+  pub keep-used : {p : M.Batch → Bool} {acc : List M.Batch} → acc ≡ [] → Keeping viewBatch p n 32 (t .batches) (keep p (viewBuffer t)) acc 0
+  keep-used a = rw used-view (keep-start l a)
+
+  pub carry-used : (rows : List ℕ) (q : S.Place) (f : S.Field) → Working viewBatch (carry rows q) n 32 (t .batches) (C.run (M.changesIn (M.pending rows (viewBuffer t))) q f) f 0
+  carry-used rows q f = rw used-view (work-start l (run-pending rows (counted viewBatch n (t .batches)) q f))

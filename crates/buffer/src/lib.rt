@@ -1,4 +1,5 @@
 // The buffer: committed sessions that wait for a worker, oldest first.
+ghost use Prim.Native.Nat.{min};
 ghost use mathlib.Core.Path.{_≡_};
 ghost use mathlib.Core.Bool.{true, cond, not};
 ghost use mathlib.Core.List.{[]};
@@ -23,6 +24,17 @@ use field::Field;
 use keys::Place;
 use rows::Rows;
 
+// How many entries are in use, by a table's count.
+fn used(count: u8) -> usize
+    ensures { λ r. ⌜ r ≡ min count bufferLimit ⌝ }
+{
+    let n = count as usize;
+    if Buffer::LIMIT <= n {
+        return Buffer::LIMIT;
+    }
+    n
+}
+
 pub struct Buffer {
     pub count: u8,
     pub batches: [Batch; Buffer::LIMIT],
@@ -45,11 +57,7 @@ impl Buffer {
     pub fn len(self) -> u8
         ensures { λ r. ⌜ r ≡ length (viewBuffer self) ⌝ }
     {
-        let n = self.count;
-        if Self::LIMIT <= n as usize {
-            return Self::LIMIT as u8;
-        }
-        n
+        used(self.count) as u8
     }
 
     pub fn is_empty(self) -> bool
@@ -65,21 +73,16 @@ impl Buffer {
         if self.count == 0 {
             return 0;
         }
-        let b = self.batches[0];
-        b.number
+        self.batches[0].number
     }
 
     pub fn has(self, n: u32) -> bool
         ensures { λ r. ⌜ r ≡ isBuffered n (viewBuffer self) ⌝ }
     {
-        let count = self.count as usize;
+        let count = used(self.count);
         let mut i: usize = 0;
-        while i < Self::LIMIT {
-            if count <= i {
-                return false;
-            }
-            let b = self.batches[i];
-            if b.is(n) {
+        while i < count {
+            if n == self.batches[i].number {
                 return true;
             }
             i += 1;
@@ -92,14 +95,11 @@ impl Buffer {
         ensures shows { λ r. ⌜ viewChanges r ≡ batchOf n (viewBuffer self) ⌝ }
         ensures form { λ r. ⌜ (bufferForm self ≡ true → changesForm r ≡ true) ⌝ }
     {
-        let count = self.count as usize;
+        let count = used(self.count);
         let mut i: usize = 0;
-        while i < Self::LIMIT {
-            if count <= i {
-                return Changes::empty();
-            }
+        while i < count {
             let b = self.batches[i];
-            if b.is(n) {
+            if n == b.number {
                 return b.changes;
             }
             i += 1;
@@ -126,7 +126,7 @@ impl Buffer {
         ensures shows { λ r. ⌜ viewBuffer r ≡ cond (not (eqb n (viewBatch b .number))) (pushed bufferLimit (viewBuffer self) (viewBatch b)) (viewBuffer self) ⌝ }
         ensures form { λ r. ⌜ (batchForm b ≡ true → bufferForm self ≡ true → bufferForm r ≡ true) ⌝ }
     {
-        if b.is(n) {
+        if n == b.number {
             return self;
         }
         self.push(b)
@@ -137,15 +137,11 @@ impl Buffer {
         ensures shows { λ r. ⌜ viewBuffer r ≡ unbuffer n (viewBuffer self) ⌝ }
         ensures form { λ r. ⌜ (bufferForm self ≡ true → bufferForm r ≡ true) ⌝ }
     {
-        let count = self.count as usize;
+        let count = used(self.count);
         let mut kept = Buffer::empty();
         let mut i: usize = 0;
-        while i < Self::LIMIT {
-            if count <= i {
-                return kept;
-            }
-            let b = self.batches[i];
-            kept = kept.push_unless(b, n);
+        while i < count {
+            kept = kept.push_unless(self.batches[i], n);
             i += 1;
         }
         kept
@@ -155,14 +151,10 @@ impl Buffer {
     pub fn sets(self, q: Place) -> bool
         ensures { λ r. ⌜ r ≡ setsIt (changesIn (viewBuffer self)) (viewPlace q) ⌝ }
     {
-        let count = self.count as usize;
+        let count = used(self.count);
         let mut i: usize = 0;
-        while i < Self::LIMIT {
-            if count <= i {
-                return false;
-            }
-            let b = self.batches[i];
-            if b.sets(q) {
+        while i < count {
+            if self.batches[i].sets(q) {
                 return true;
             }
             i += 1;
@@ -170,41 +162,27 @@ impl Buffer {
         false
     }
 
-    // A place's field after all buffered changes.
-    pub fn run(self, q: Place, f: Field) -> Field
-        ensures shows { λ r. ⌜ viewField r ≡ run (changesIn (viewBuffer self)) (viewPlace q) (viewField f) ⌝ }
-        ensures form { λ r. ⌜ (fieldForm f ≡ true → fieldForm r ≡ true) ⌝ }
-    {
-        let count = self.count as usize;
-        let mut now = f;
-        let mut i: usize = 0;
-        while i < Self::LIMIT {
-            if count <= i {
-                return now;
-            }
-            let b = self.batches[i];
-            now = b.run(q, now);
-            i += 1;
-        }
-        now
-    }
-
     // A place's field after those that the store does not have yet.
     pub fn carried(self, rows: Rows, q: Place, f: Field) -> Field
         ensures shows { λ r. ⌜ viewField r ≡ run (changesIn (pending (viewRows rows) (viewBuffer self))) (viewPlace q) (viewField f) ⌝ }
         ensures form { λ r. ⌜ (fieldForm f ≡ true → fieldForm r ≡ true) ⌝ }
     {
-        let count = self.count as usize;
+        let count = used(self.count);
         let mut now = f;
         let mut i: usize = 0;
-        while i < Self::LIMIT {
-            if count <= i {
-                return now;
-            }
-            let b = self.batches[i];
-            now = b.carried(rows, q, now);
+        while i < count {
+            now = self.batches[i].carried(rows, q, now);
             i += 1;
         }
         now
+    }
+
+    // A place's field after all buffered changes: the store has none of them.
+    pub fn run(self, q: Place, f: Field) -> Field
+        ensures shows { λ r. ⌜ viewField r ≡ run (changesIn (viewBuffer self)) (viewPlace q) (viewField f) ⌝ }
+        ensures form { λ r. ⌜ (fieldForm f ≡ true → fieldForm r ≡ true) ⌝ }
+    {
+        let none = Rows::empty();
+        self.carried(none, q, f)
     }
 }

@@ -5,7 +5,7 @@ use Rattle.batch.proofs.Batch.carried.Statement.{statement}
 use Rattle.batch.proofs.Batch.carried.Tie as tie
 use Rattle.batch.proofs.Batch.carried.Reads as reads
 use Rattle.batch.proofs.Batch.carried.Lts as lts
-use Rattle.batch.proofs.Batch.run.Reads as run-reads
+use Rattle.changes.proofs.Changes.run.Reads as run-reads
 use Rattle.rows.proofs.Rows.has.Reads as has-reads
 
 has-requires : tie.Need-has-requires

@@ -7,17 +7,18 @@ use Rattle.rules.specs.Tables as M
 use Rattle.rules.specs.Changes as C
 use Rattle.keys.specs.View.{viewPlace}
 use Rattle.field.specs.View.{viewField, fieldForm}
+use Rattle.rows.specs.View.{viewRows}
 use Rattle.lists.proofs.Loops.{length-mapped}
-use Rattle.lists.proofs.Views.{Working, work-start, work-next, work-end, work-past}
+use Rattle.lists.proofs.Views.{Working, work-next, work-end}
 use Rattle.batch.specs.View.{viewBatch, carry}
 use Rattle.buffer.specs.View.{viewBuffer}
-use Rattle.buffer.proofs.BufferLaws.{run-all, run-pending}
-use Rattle.rows.specs.View.{viewRows}
+use Rattle.buffer.proofs.BufferLaws.{within, carry-used}
 use Rattle.buffer.proofs.Buffer.carried.Statement.{statement}
 use Rattle.buffer.proofs.Buffer.carried.Tie as tie
 use Rattle.buffer.proofs.Buffer.carried.Reads as reads
 use Rattle.buffer.proofs.Buffer.carried.Lts as lts
 use Rattle.batch.proofs.Batch.carried.Reads as carried-reads
+use Rattle.buffer.proofs.used.Reads as used-reads
 
 abbrev Inv-loop : tie.InvT-loop
 Inv-loop rows q self count now₀ i₀ now i =
@@ -25,23 +26,19 @@ Inv-loop rows q self count now₀ i₀ now i =
     × (fieldForm now₀ ≡ true → fieldForm now ≡ true)
 
 abbrev μ-loop : tie.MeasureT-loop
-μ-loop rows q self count now₀ i₀ now i = 32 - i
+μ-loop rows q self count now₀ i₀ now i = count - i
 
-cast-count : tie.Need-cast-count Inv-loop μ-loop
-cast-count c = search needs
+used-requires : tie.Need-used-requires Inv-loop μ-loop
+used-requires c κs = search needs
 
 loop-holds : tie.Need-loop-holds Inv-loop μ-loop
-unfolding viewBuffer
-loop-holds c = (work-start (search length-mapped) (run-pending _ _ _ _), λ f. f)
+loop-holds c = (search (carry-used, length-mapped), λ f. f)
 
-returns : tie.Need-returns Inv-loop μ-loop
-returns c = (search (work-end, needs), c .before .before .loop .inv .1)
+mul-carried : tie.Need-mul-carried Inv-loop μ-loop
+mul-carried c = search needs
 
-mul-b : tie.Need-mul-b Inv-loop μ-loop
-mul-b c = search needs
-
-element-copy-out-b : tie.Need-element-copy-out-b Inv-loop μ-loop
-element-copy-out-b c = search needs
+element-copy-out-carried : tie.Need-element-copy-out-carried Inv-loop μ-loop
+element-copy-out-carried c = search needs
 
 carried-requires : tie.Need-carried-requires Inv-loop μ-loop
 carried-requires c κs = search needs
@@ -53,10 +50,10 @@ loop-less : tie.Need-loop-less Inv-loop μ-loop
 loop-less c = search needs
 
 loop-again : tie.Need-loop-again Inv-loop μ-loop
-loop-again c = (search (work-next, needs), λ f. c .carried .ensures .1 (c .before .before .before .before .loop .inv .1 f))
+loop-again c = (search (work-next, within), λ f. c .carried .ensures .1 (c .before .before .before .loop .inv .1 f))
 
-returns-2 : tie.Need-returns-2 Inv-loop μ-loop
-returns-2 c = (search (work-past, needs), c .before .loop .inv .1)
+returns : tie.Need-returns Inv-loop μ-loop
+returns c = (search (work-end, needs), c .before .loop .inv .1)
 
 pub carried-spec : {M : Type 1} → statement M
 carried-spec =
@@ -64,13 +61,12 @@ carried-spec =
     (tie.spec
     Inv-loop
     μ-loop
-    cast-count
+    used-requires
     loop-holds
-    returns
-    mul-b
-    element-copy-out-b
+    mul-carried
+    element-copy-out-carried
     carried-requires
     add-i
     loop-less
     loop-again
-    returns-2)
+    returns)

@@ -5,36 +5,29 @@ use mathlib.Core.List.{[]}
 use lib.Dec.{eqb}
 use Rattle.rules.specs.Tables as M
 use Rattle.lists.proofs.Loops.{length-mapped}
-use Rattle.lists.proofs.Views.{Seeking, seek-start, seek-hit, seek-next, seek-end, seek-past}
+use Rattle.lists.proofs.Views.{Seeking, seek-end}
 use Rattle.batch.specs.View.{viewBatch}
 use Rattle.buffer.specs.View.{viewBuffer}
 use Rattle.batch.specs.Form.{batchForm}
-use Rattle.buffer.proofs.BufferLaws.{batch-form}
+use Rattle.buffer.proofs.BufferLaws.{within, seek-used, number-hit, number-next, batch-form}
 use Rattle.buffer.proofs.Buffer.changes_of.Statement.{statement}
 use Rattle.buffer.proofs.Buffer.changes_of.Tie as tie
 use Rattle.buffer.proofs.Buffer.changes_of.Reads as reads
 use Rattle.buffer.proofs.Buffer.changes_of.Lts as lts
-use Rattle.batch.proofs.Batch.is.Reads as is-reads
+use Rattle.buffer.proofs.used.Reads as used-reads
 use Rattle.changes.proofs.Changes.empty.Reads as empty-reads
 
 abbrev Inv-loop : tie.InvT-loop
 Inv-loop n self count i₀ i = Seeking viewBatch (λ b. eqb n (b .number)) (λ b. b .changes) [] count 32 (self .batches) (M.batchOf n (viewBuffer self)) i
 
 abbrev μ-loop : tie.MeasureT-loop
-μ-loop n self count i₀ i = 32 - i
+μ-loop n self count i₀ i = count - i
 
-cast-count : tie.Need-cast-count Inv-loop μ-loop
-cast-count c = search needs
+used-requires : tie.Need-used-requires Inv-loop μ-loop
+used-requires c κs = search needs
 
 loop-holds : tie.Need-loop-holds Inv-loop μ-loop
-unfolding viewBuffer
-loop-holds c = search (seek-start, length-mapped)
-
-empty-requires : tie.Need-empty-requires Inv-loop μ-loop
-empty-requires c κs = search needs
-
-returns : tie.Need-returns Inv-loop μ-loop
-returns c = (search (seek-end, needs), λ f. c .empty .ensures .1)
+loop-holds c = search (seek-used, length-mapped)
 
 mul-b : tie.Need-mul-b Inv-loop μ-loop
 mul-b c = search needs
@@ -42,12 +35,9 @@ mul-b c = search needs
 element-copy-out-b : tie.Need-element-copy-out-b Inv-loop μ-loop
 element-copy-out-b c = search needs
 
-is-requires : tie.Need-is-requires Inv-loop μ-loop
-is-requires c κs = search needs
-
-returns-2 : tie.Need-returns-2 Inv-loop μ-loop
+returns : tie.Need-returns Inv-loop μ-loop
 unfolding viewBatch batchForm
-returns-2 c = (search (seek-hit, needs), search (batch-form, needs))
+returns c = (search (number-hit, within), batch-form _ _ _ (search needs))
 
 add-i : tie.Need-add-i Inv-loop μ-loop
 add-i c = search needs
@@ -56,13 +46,13 @@ loop-less : tie.Need-loop-less Inv-loop μ-loop
 loop-less c = search needs
 
 loop-again : tie.Need-loop-again Inv-loop μ-loop
-loop-again c = search seek-next
+loop-again c = number-next (c .before .before .before .before .loop .inv) _ (search needs) (search needs) (c .if1 .left)
 
-empty-requires-2 : tie.Need-empty-requires-2 Inv-loop μ-loop
-empty-requires-2 c κs = search needs
+empty-requires : tie.Need-empty-requires Inv-loop μ-loop
+empty-requires c κs = search needs
 
-returns-3 : tie.Need-returns-3 Inv-loop μ-loop
-returns-3 c = (search (seek-past, needs), λ f. c .empty2 .ensures .1)
+returns-2 : tie.Need-returns-2 Inv-loop μ-loop
+returns-2 c = (search (seek-end, needs), λ f. c .empty .ensures .1)
 
 pub changes-of-spec : {M : Type 1} → statement M
 changes-of-spec =
@@ -70,16 +60,13 @@ changes-of-spec =
     (tie.spec
     Inv-loop
     μ-loop
-    cast-count
+    used-requires
     loop-holds
-    empty-requires
-    returns
     mul-b
     element-copy-out-b
-    is-requires
-    returns-2
+    returns
     add-i
     loop-less
     loop-again
-    empty-requires-2
-    returns-3)
+    empty-requires
+    returns-2)

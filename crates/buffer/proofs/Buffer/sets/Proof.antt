@@ -6,42 +6,40 @@ use Rattle.rules.specs.Tables as M
 use Rattle.rules.specs.Changes as C
 use Rattle.keys.specs.View.{viewPlace}
 use Rattle.lists.proofs.Loops.{length-mapped}
-use Rattle.lists.proofs.Views.{Seeking, seek-hit, seek-next, seek-end, seek-past}
+use Rattle.lists.proofs.Views.{Seeking, seek-hit, seek-next, seek-end}
 use Rattle.batch.specs.View.{viewBatch}
 use Rattle.buffer.specs.View.{viewBuffer}
-use Rattle.buffer.proofs.BufferLaws.{sets-start}
+use Rattle.buffer.proofs.BufferLaws.{within, sets-used}
 use Rattle.buffer.proofs.Buffer.sets.Statement.{statement}
 use Rattle.buffer.proofs.Buffer.sets.Tie as tie
 use Rattle.buffer.proofs.Buffer.sets.Reads as reads
 use Rattle.buffer.proofs.Buffer.sets.Lts as lts
 use Rattle.batch.proofs.Batch.sets.Reads as sets-reads
+use Rattle.buffer.proofs.used.Reads as used-reads
 
 abbrev Inv-loop : tie.InvT-loop
 Inv-loop q self count i₀ i = Seeking viewBatch (λ b. C.setsIt (b .changes) (viewPlace q)) (λ b. true) false count 32 (self .batches) (C.setsIt (M.changesIn (viewBuffer self)) (viewPlace q)) i
 
 abbrev μ-loop : tie.MeasureT-loop
-μ-loop q self count i₀ i = 32 - i
+μ-loop q self count i₀ i = count - i
 
-cast-count : tie.Need-cast-count Inv-loop μ-loop
-cast-count c = search needs
+used-requires : tie.Need-used-requires Inv-loop μ-loop
+used-requires c κs = search needs
 
 loop-holds : tie.Need-loop-holds Inv-loop μ-loop
-loop-holds c = search (sets-start, length-mapped, needs)
+loop-holds c = search (sets-used, length-mapped)
 
-returns : tie.Need-returns Inv-loop μ-loop
-returns c = search seek-end
+mul-sets : tie.Need-mul-sets Inv-loop μ-loop
+mul-sets c = search needs
 
-mul-b : tie.Need-mul-b Inv-loop μ-loop
-mul-b c = search needs
-
-element-copy-out-b : tie.Need-element-copy-out-b Inv-loop μ-loop
-element-copy-out-b c = search needs
+element-copy-out-sets : tie.Need-element-copy-out-sets Inv-loop μ-loop
+element-copy-out-sets c = search needs
 
 sets-requires : tie.Need-sets-requires Inv-loop μ-loop
 sets-requires c κs = search needs
 
-returns-2 : tie.Need-returns-2 Inv-loop μ-loop
-returns-2 c = search seek-hit
+returns : tie.Need-returns Inv-loop μ-loop
+returns c = search (seek-hit, within)
 
 add-i : tie.Need-add-i Inv-loop μ-loop
 add-i c = search needs
@@ -50,10 +48,10 @@ loop-less : tie.Need-loop-less Inv-loop μ-loop
 loop-less c = search needs
 
 loop-again : tie.Need-loop-again Inv-loop μ-loop
-loop-again c = search seek-next
+loop-again c = search (seek-next, within)
 
-returns-3 : tie.Need-returns-3 Inv-loop μ-loop
-returns-3 c = search seek-past
+returns-2 : tie.Need-returns-2 Inv-loop μ-loop
+returns-2 c = search seek-end
 
 pub sets-spec : {M : Type 1} → statement M
 sets-spec =
@@ -61,14 +59,13 @@ sets-spec =
     (tie.spec
     Inv-loop
     μ-loop
-    cast-count
+    used-requires
     loop-holds
-    returns
-    mul-b
-    element-copy-out-b
+    mul-sets
+    element-copy-out-sets
     sets-requires
-    returns-2
+    returns
     add-i
     loop-less
     loop-again
-    returns-3)
+    returns-2)

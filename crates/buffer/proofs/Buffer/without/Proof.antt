@@ -6,17 +6,18 @@ use mathlib.Core.Bool.{true, not}
 use lib.Dec.{eqb}
 use Rattle.rules.specs.Tables as M
 use Rattle.lists.proofs.Loops.{length-mapped}
-use Rattle.lists.proofs.Views.{Keeping, keep-start, keep-next, keep-end, keep-past}
+use Rattle.lists.proofs.Views.{Keeping, keep-next, keep-end}
 use Rattle.batch.specs.View.{viewBatch}
 use Rattle.buffer.specs.View.{viewBuffer}
 use Rattle.buffer.specs.Form.{bufferForm}
-use Rattle.buffer.proofs.BufferLaws.{batch-form}
+use Rattle.buffer.proofs.BufferLaws.{within, keep-used, batch-form}
 use Rattle.buffer.proofs.Buffer.without.Statement.{statement}
 use Rattle.buffer.proofs.Buffer.without.Tie as tie
 use Rattle.buffer.proofs.Buffer.without.Reads as reads
 use Rattle.buffer.proofs.Buffer.without.Lts as lts
 use Rattle.buffer.proofs.Buffer.empty.Reads as empty-reads
 use Rattle.buffer.proofs.Buffer.push_unless.Reads as push-unless-reads
+use Rattle.buffer.proofs.used.Reads as used-reads
 
 abbrev Inv-loop : tie.InvT-loop
 Inv-loop n self count kept₀ i₀ kept i =
@@ -24,26 +25,22 @@ Inv-loop n self count kept₀ i₀ kept i =
     × (bufferForm self ≡ true → bufferForm kept ≡ true)
 
 abbrev μ-loop : tie.MeasureT-loop
-μ-loop n self count kept₀ i₀ kept i = 32 - i
+μ-loop n self count kept₀ i₀ kept i = count - i
 
-cast-count : tie.Need-cast-count Inv-loop μ-loop
-cast-count c = search needs
+used-requires : tie.Need-used-requires Inv-loop μ-loop
+used-requires c κs = search needs
 
 empty-requires : tie.Need-empty-requires Inv-loop μ-loop
 empty-requires c κs = search needs
 
 loop-holds : tie.Need-loop-holds Inv-loop μ-loop
-unfolding viewBuffer
-loop-holds c = (search (keep-start, length-mapped, needs), λ f. c .empty .ensures .1)
+loop-holds c = (search (keep-used, length-mapped), λ f. c .empty .ensures .1)
 
-returns : tie.Need-returns Inv-loop μ-loop
-returns c = (search (keep-end, needs), c .before .before .loop .inv .1)
+mul-push-unless : tie.Need-mul-push-unless Inv-loop μ-loop
+mul-push-unless c = search needs
 
-mul-b : tie.Need-mul-b Inv-loop μ-loop
-mul-b c = search needs
-
-element-copy-out-b : tie.Need-element-copy-out-b Inv-loop μ-loop
-element-copy-out-b c = search needs
+element-copy-out-push-unless : tie.Need-element-copy-out-push-unless Inv-loop μ-loop
+element-copy-out-push-unless c = search needs
 
 push-unless-requires : tie.Need-push-unless-requires Inv-loop μ-loop
 push-unless-requires c κs = search needs
@@ -55,10 +52,10 @@ loop-less : tie.Need-loop-less Inv-loop μ-loop
 loop-less c = search needs
 
 loop-again : tie.Need-loop-again Inv-loop μ-loop
-loop-again c = (search (keep-next, needs), λ f. c .push-unless .ensures .1 (batch-form _ _ _ (search needs) f) (c .before .before .before .before .loop .inv .1 f))
+loop-again c = (search (keep-next, within), λ f. c .push-unless .ensures .1 (batch-form _ _ _ (search needs) f) (c .before .before .before .loop .inv .1 f))
 
-returns-2 : tie.Need-returns-2 Inv-loop μ-loop
-returns-2 c = (search (keep-past, needs), c .before .loop .inv .1)
+returns : tie.Need-returns Inv-loop μ-loop
+returns c = (search (keep-end, needs), c .before .loop .inv .1)
 
 pub without-spec : {M : Type 1} → statement M
 without-spec =
@@ -66,14 +63,13 @@ without-spec =
     (tie.spec
     Inv-loop
     μ-loop
-    cast-count
+    used-requires
     empty-requires
     loop-holds
-    returns
-    mul-b
-    element-copy-out-b
+    mul-push-unless
+    element-copy-out-push-unless
     push-unless-requires
     add-i
     loop-less
     loop-again
-    returns-2)
+    returns)

@@ -1,0 +1,15 @@
+-- `used` meets its contract.
+use borrow.Author.Needs.{needs}
+use Rattle.buffer.proofs.used.Statement.{statement}
+use Rattle.buffer.proofs.used.Tie as tie
+use Rattle.buffer.proofs.used.Reads as reads
+use Rattle.buffer.proofs.used.Lts as lts
+
+returns : tie.Need-returns
+returns c = search needs
+
+returns-2 : tie.Need-returns-2
+returns-2 c = search needs
+
+pub used-spec : {M : Type 1} → statement M
+used-spec = tie.close (tie.spec returns returns-2)
