@@ -2,8 +2,6 @@
 use Rattle.changes.proofs.ChangeLaws.{set-is, unset-is}
 use Rattle.changes.proofs.is_set.Statement.{statement}
 use Rattle.changes.proofs.is_set.Tie as tie
-use Rattle.changes.proofs.is_set.Reads as reads
-use Rattle.changes.proofs.is_set.Lts as lts
 
 returns : tie.Need-returns
 returns c = set-is _ (c .if1 .taken)

@@ -3,8 +3,6 @@ use Rattle.store.proofs.StoreLaws.{index-in, index-no-document, index-n
 use borrow.Author.Needs.{needs}
 use Rattle.store.proofs.index_of.Statement.{statement}
 use Rattle.store.proofs.index_of.Tie as tie
-use Rattle.store.proofs.index_of.Reads as reads
-use Rattle.store.proofs.index_of.Lts as lts
 
 cast-document : tie.Need-cast-document
 cast-document c = search needs

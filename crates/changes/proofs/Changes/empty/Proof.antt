@@ -6,9 +6,6 @@ use Rattle.changes.proofs.ChangeLaws.{changes-empty}
 use borrow.Author.Needs.{needs}
 use Rattle.changes.proofs.Changes.empty.Statement.{statement}
 use Rattle.changes.proofs.Changes.empty.Tie as tie
-use Rattle.changes.proofs.Changes.empty.Reads as reads
-use Rattle.changes.proofs.Changes.empty.Lts as lts
-use Rattle.changes.proofs.Update.empty.Reads as empty-reads
 
 empty-requires : tie.Need-empty-requires
 empty-requires c κs = search needs

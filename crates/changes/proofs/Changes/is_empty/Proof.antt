@@ -5,8 +5,6 @@ use Rattle.lists.proofs.Views.{counted-empty}
 use Rattle.changes.specs.View.{viewChanges}
 use Rattle.changes.proofs.Changes.is_empty.Statement.{statement}
 use Rattle.changes.proofs.Changes.is_empty.Tie as tie
-use Rattle.changes.proofs.Changes.is_empty.Reads as reads
-use Rattle.changes.proofs.Changes.is_empty.Lts as lts
 
 returns : tie.Need-returns
 unfolding viewChanges

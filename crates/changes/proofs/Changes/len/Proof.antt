@@ -5,8 +5,6 @@ use Rattle.changes.specs.View.{viewChanges}
 use borrow.Author.Needs.{needs}
 use Rattle.changes.proofs.Changes.len.Statement.{statement}
 use Rattle.changes.proofs.Changes.len.Tie as tie
-use Rattle.changes.proofs.Changes.len.Reads as reads
-use Rattle.changes.proofs.Changes.len.Lts as lts
 
 cast-if1 : tie.Need-cast-if1
 cast-if1 c = search needs

@@ -7,8 +7,6 @@ use Rattle.changes.specs.Form.{changesForm}
 use borrow.Author.Needs.{needs}
 use Rattle.changes.proofs.Changes.push.Statement.{statement}
 use Rattle.changes.proofs.Changes.push.Tie as tie
-use Rattle.changes.proofs.Changes.push.Reads as reads
-use Rattle.changes.proofs.Changes.push.Lts as lts
 
 cast-at : tie.Need-cast-at
 cast-at c = search needs

@@ -12,9 +12,6 @@ use Rattle.changes.specs.View.{viewUpdate, viewChanges}
 use Rattle.changes.proofs.ChangeLaws.{run-fold}
 use Rattle.changes.proofs.Changes.run.Statement.{statement}
 use Rattle.changes.proofs.Changes.run.Tie as tie
-use Rattle.changes.proofs.Changes.run.Reads as reads
-use Rattle.changes.proofs.Changes.run.Lts as lts
-use Rattle.changes.proofs.Update.after.Reads as after-reads
 
 abbrev Inv-loop : tie.InvT-loop
 Inv-loop q self count now₀ i₀ now i =

@@ -10,9 +10,6 @@ use Rattle.lists.proofs.Views.{Seeking, seek-start, seek-hit, seek-next, seek-e
 use Rattle.changes.specs.View.{viewUpdate, viewChanges}
 use Rattle.changes.proofs.Changes.sets.Statement.{statement}
 use Rattle.changes.proofs.Changes.sets.Tie as tie
-use Rattle.changes.proofs.Changes.sets.Reads as reads
-use Rattle.changes.proofs.Changes.sets.Lts as lts
-use Rattle.changes.proofs.Update.sets.Reads as sets-reads
 
 abbrev Inv-loop : tie.InvT-loop
 Inv-loop q self count i₀ i = Seeking viewUpdate (C.sets (viewPlace q)) (λ c. true) false count 8 (self .items) (C.setsIt (viewChanges self) (viewPlace q)) i

@@ -10,9 +10,6 @@ use Rattle.lists.proofs.Views.{Seeking, seek-start, seek-hit, seek-next, seek-e
 use Rattle.changes.specs.View.{viewUpdate, viewChanges}
 use Rattle.changes.proofs.Changes.touches.Statement.{statement}
 use Rattle.changes.proofs.Changes.touches.Tie as tie
-use Rattle.changes.proofs.Changes.touches.Reads as reads
-use Rattle.changes.proofs.Changes.touches.Lts as lts
-use Rattle.changes.proofs.Update.is_at.Reads as is-at-reads
 
 abbrev Inv-loop : tie.InvT-loop
 Inv-loop q self count i₀ i = Seeking viewUpdate (λ c. S.samePlace (viewPlace q) (c .at)) (λ c. true) false count 8 (self .items) (C.touches (viewChanges self) (viewPlace q)) i

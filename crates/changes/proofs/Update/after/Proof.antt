@@ -4,10 +4,6 @@ use Rattle.field.proofs.Claims.{answer-field}
 use borrow.Author.Needs.{needs}
 use Rattle.changes.proofs.Update.after.Statement.{statement}
 use Rattle.changes.proofs.Update.after.Tie as tie
-use Rattle.changes.proofs.Update.after.Reads as reads
-use Rattle.changes.proofs.Update.after.Lts as lts
-use Rattle.changes.proofs.Update.is_at.Reads as is-at-reads
-use Rattle.field.proofs.Field.changed.Reads as changed-reads
 
 is-at-requires : tie.Need-is-at-requires
 is-at-requires c κs = search needs

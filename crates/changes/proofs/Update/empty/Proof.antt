@@ -3,9 +3,6 @@ use Rattle.changes.proofs.ChangeLaws.{unused-is}
 use borrow.Author.Needs.{needs}
 use Rattle.changes.proofs.Update.empty.Statement.{statement}
 use Rattle.changes.proofs.Update.empty.Tie as tie
-use Rattle.changes.proofs.Update.empty.Reads as reads
-use Rattle.changes.proofs.Update.empty.Lts as lts
-use Rattle.keys.proofs.Place.empty.Reads as empty-reads
 
 empty-requires : tie.Need-empty-requires
 empty-requires c κs = search needs

@@ -3,10 +3,6 @@ use Rattle.changes.proofs.ChangeLaws.{sets-here, sets-elsewhere}
 use borrow.Author.Needs.{needs}
 use Rattle.changes.proofs.Update.sets.Statement.{statement}
 use Rattle.changes.proofs.Update.sets.Tie as tie
-use Rattle.changes.proofs.Update.sets.Reads as reads
-use Rattle.changes.proofs.Update.sets.Lts as lts
-use Rattle.changes.proofs.Update.is_at.Reads as is-at-reads
-use Rattle.changes.proofs.is_set.Reads as is-set-reads
 
 is-at-requires : tie.Need-is-at-requires
 is-at-requires c κs = search needs

@@ -6,9 +6,6 @@ use Rattle.keys.proofs.KeyLaws.{key-form-empty}
 use borrow.Author.Needs.{needs}
 use Rattle.keys.proofs.Key.empty.Statement.{statement}
 use Rattle.keys.proofs.Key.empty.Tie as tie
-use Rattle.keys.proofs.Key.empty.Reads as reads
-use Rattle.keys.proofs.Key.empty.Lts as lts
-use Rattle.keys.proofs.Place.empty.Reads as empty-reads
 
 empty-requires : tie.Need-empty-requires
 empty-requires c κs = search needs

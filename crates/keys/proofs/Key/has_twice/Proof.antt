@@ -5,9 +5,6 @@ use Rattle.lists.proofs.Loops.{length-mapped}
 use Rattle.keys.proofs.KeyLaws.{Repeating, repeat-start, repeat-hit, repeat-next, repeat-end, repeat-past}
 use Rattle.keys.proofs.Key.has_twice.Statement.{statement}
 use Rattle.keys.proofs.Key.has_twice.Tie as tie
-use Rattle.keys.proofs.Key.has_twice.Reads as reads
-use Rattle.keys.proofs.Key.has_twice.Lts as lts
-use Rattle.keys.proofs.Key.stands_from.Reads as stands-from-reads
 
 abbrev Inv-loop : tie.InvT-loop
 Inv-loop self count i₀ i = Repeating self i

@@ -10,9 +10,6 @@ use Rattle.keys.specs.View.{viewPlace, viewKey}
 use Rattle.keys.proofs.KeyLaws.{place-in}
 use Rattle.keys.proofs.Key.in_documents.Statement.{statement}
 use Rattle.keys.proofs.Key.in_documents.Tie as tie
-use Rattle.keys.proofs.Key.in_documents.Reads as reads
-use Rattle.keys.proofs.Key.in_documents.Lts as lts
-use Rattle.docset.proofs.has.Reads as has-reads
 
 abbrev Inv-loop : tie.InvT-loop
 Inv-loop set self count i₀ i = Seeking viewPlace (λ q. docs set (q .document)) (λ q. true) false count 4 (self .places) (inDocuments (docs set) (viewKey self)) i

@@ -6,8 +6,6 @@ use Rattle.lists.proofs.Views.{counted-empty}
 use Rattle.keys.specs.View.{viewKey}
 use Rattle.keys.proofs.Key.is_empty.Statement.{statement}
 use Rattle.keys.proofs.Key.is_empty.Tie as tie
-use Rattle.keys.proofs.Key.is_empty.Reads as reads
-use Rattle.keys.proofs.Key.is_empty.Lts as lts
 
 returns : tie.Need-returns
 unfolding viewKey

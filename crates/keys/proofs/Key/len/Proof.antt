@@ -5,8 +5,6 @@ use Rattle.keys.specs.View.{viewKey}
 use borrow.Author.Needs.{needs}
 use Rattle.keys.proofs.Key.len.Statement.{statement}
 use Rattle.keys.proofs.Key.len.Tie as tie
-use Rattle.keys.proofs.Key.len.Reads as reads
-use Rattle.keys.proofs.Key.len.Lts as lts
 
 cast-if1 : tie.Need-cast-if1
 cast-if1 c = search needs

@@ -4,9 +4,6 @@ use Rattle.keys.proofs.KeyLaws.{place-at, place-unused, place-past}
 use borrow.Author.Needs.{needs}
 use Rattle.keys.proofs.Key.place.Statement.{statement}
 use Rattle.keys.proofs.Key.place.Tie as tie
-use Rattle.keys.proofs.Key.place.Reads as reads
-use Rattle.keys.proofs.Key.place.Lts as lts
-use Rattle.keys.proofs.Place.empty.Reads as empty-reads
 
 empty-requires : tie.Need-empty-requires
 empty-requires c κs = search needs

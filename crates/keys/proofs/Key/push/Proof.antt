@@ -7,8 +7,6 @@ use Rattle.keys.specs.Form.{keyForm}
 use borrow.Author.Needs.{needs}
 use Rattle.keys.proofs.Key.push.Statement.{statement}
 use Rattle.keys.proofs.Key.push.Tie as tie
-use Rattle.keys.proofs.Key.push.Reads as reads
-use Rattle.keys.proofs.Key.push.Lts as lts
 
 cast-end : tie.Need-cast-end
 cast-end c = search needs

@@ -11,9 +11,6 @@ use Rattle.keys.specs.View.{viewPlace, viewKey}
 use Rattle.keys.proofs.KeyLaws.{stands-start}
 use Rattle.keys.proofs.Key.stands_from.Statement.{statement}
 use Rattle.keys.proofs.Key.stands_from.Tie as tie
-use Rattle.keys.proofs.Key.stands_from.Reads as reads
-use Rattle.keys.proofs.Key.stands_from.Lts as lts
-use Rattle.keys.proofs.Place.is.Reads as is-reads
 
 abbrev Inv-loop : tie.InvT-loop
 Inv-loop q from self count i₀ i = Seeking viewPlace (S.samePlace (viewPlace q)) (λ p. true) false count 4 (self .places) (any (S.samePlace (viewPlace q)) (drop from (viewKey self))) i

@@ -3,9 +3,6 @@ use Rattle.keys.proofs.KeyLaws.{keys-empty, keys-form}
 use borrow.Author.Needs.{needs}
 use Rattle.keys.proofs.Keys.empty.Statement.{statement}
 use Rattle.keys.proofs.Keys.empty.Tie as tie
-use Rattle.keys.proofs.Keys.empty.Reads as reads
-use Rattle.keys.proofs.Keys.empty.Lts as lts
-use Rattle.keys.proofs.Key.empty.Reads as empty-reads
 
 empty-requires : tie.Need-empty-requires
 empty-requires c κs = search needs

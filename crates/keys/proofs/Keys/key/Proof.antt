@@ -4,9 +4,6 @@ use Rattle.keys.proofs.KeyLaws.{key-past, key-at, key-form}
 use borrow.Author.Needs.{needs}
 use Rattle.keys.proofs.Keys.key.Statement.{statement}
 use Rattle.keys.proofs.Keys.key.Tie as tie
-use Rattle.keys.proofs.Keys.key.Reads as reads
-use Rattle.keys.proofs.Keys.key.Lts as lts
-use Rattle.keys.proofs.Key.empty.Reads as empty-reads
 
 empty-requires : tie.Need-empty-requires
 empty-requires c κs = search needs

@@ -4,8 +4,6 @@ use Rattle.keys.proofs.KeyLaws.{keys-with, keys-past, with-form}
 use borrow.Author.Needs.{needs}
 use Rattle.keys.proofs.Keys.with.Statement.{statement}
 use Rattle.keys.proofs.Keys.with.Tie as tie
-use Rattle.keys.proofs.Keys.with.Reads as reads
-use Rattle.keys.proofs.Keys.with.Lts as lts
 
 returns : tie.Need-returns
 returns c = (search (keys-past, length-mapped, needs), λ f g. f)

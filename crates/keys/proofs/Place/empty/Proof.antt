@@ -4,8 +4,6 @@ use Rattle.keys.specs.View.{viewPlace}
 use Rattle.keys.specs.Form.{isBlank}
 use Rattle.keys.proofs.Place.empty.Statement.{statement}
 use Rattle.keys.proofs.Place.empty.Tie as tie
-use Rattle.keys.proofs.Place.empty.Reads as reads
-use Rattle.keys.proofs.Place.empty.Lts as lts
 
 returns : tie.Need-returns
 unfolding viewPlace isBlank

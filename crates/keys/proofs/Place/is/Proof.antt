@@ -2,8 +2,6 @@
 use Rattle.keys.proofs.KeyLaws.{place-document, place-elsewhere}
 use Rattle.keys.proofs.Place.is.Statement.{statement}
 use Rattle.keys.proofs.Place.is.Tie as tie
-use Rattle.keys.proofs.Place.is.Reads as reads
-use Rattle.keys.proofs.Place.is.Lts as lts
 
 returns : tie.Need-returns
 returns c = search place-document

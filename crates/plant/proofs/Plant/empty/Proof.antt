@@ -5,16 +5,6 @@ use mathlib.Core.Path.{refl}
 use Rattle.plant.proofs.PlantLaws.{empty-shows, empty-kept}
 use Rattle.plant.proofs.Plant.empty.Statement.{statement}
 use Rattle.plant.proofs.Plant.empty.Tie as tie
-use Rattle.plant.proofs.Plant.empty.Reads as reads
-use Rattle.plant.proofs.Plant.empty.Lts as lts
-use Rattle.buffer.proofs.Buffer.empty.Reads as Buffer-empty-reads
-use Rattle.cache.proofs.Cache.empty.Reads as Cache-empty-reads
-use Rattle.keys.proofs.Keys.empty.Reads as Keys-empty-reads
-use Rattle.rows.proofs.Rows.empty.Reads as Rows-empty-reads
-use Rattle.sessions.proofs.Sessions.empty.Reads as Sessions-empty-reads
-use Rattle.store.proofs.Store.empty.Reads as Store-empty-reads
-use Rattle.workers.proofs.Hands.empty.Reads as Hands-empty-reads
-use Rattle.workers.proofs.Queue.empty.Reads as Queue-empty-reads
 
 empty-requires : tie.Need-empty-requires
 empty-requires c κs = search needs

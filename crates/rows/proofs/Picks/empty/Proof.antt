@@ -4,8 +4,6 @@ use Rattle.lists.specs.Table.{counted, tableForm}
 use Rattle.rows.specs.View.{viewPicks, picksForm}
 use Rattle.rows.proofs.Picks.empty.Statement.{statement}
 use Rattle.rows.proofs.Picks.empty.Tie as tie
-use Rattle.rows.proofs.Picks.empty.Reads as reads
-use Rattle.rows.proofs.Picks.empty.Lts as lts
 
 returns : tie.Need-returns
 unfolding viewPicks picksForm counted tableForm

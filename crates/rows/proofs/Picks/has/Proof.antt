@@ -8,9 +8,6 @@ use Rattle.lists.proofs.Views.{Seeking, seek-start, seek-hit, seek-next, seek-e
 use Rattle.rows.specs.View.{viewPicks}
 use Rattle.rows.proofs.Picks.has.Statement.{statement}
 use Rattle.rows.proofs.Picks.has.Tie as tie
-use Rattle.rows.proofs.Picks.has.Reads as reads
-use Rattle.rows.proofs.Picks.has.Lts as lts
-use Rattle.rows.proofs.same.Reads as same-reads
 
 abbrev Inv-loop : tie.InvT-loop
 Inv-loop n self count i₀ i = Seeking (λ m. m) (λ m. eqb n m) (λ m. true) false count 16 (self .numbers) (has n (viewPicks self)) i

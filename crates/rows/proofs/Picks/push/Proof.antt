@@ -6,8 +6,6 @@ use Rattle.rows.specs.View.{viewPicks, picksForm}
 use borrow.Author.Needs.{needs}
 use Rattle.rows.proofs.Picks.push.Statement.{statement}
 use Rattle.rows.proofs.Picks.push.Tie as tie
-use Rattle.rows.proofs.Picks.push.Reads as reads
-use Rattle.rows.proofs.Picks.push.Lts as lts
 
 cast-at : tie.Need-cast-at
 cast-at c = search needs

@@ -4,8 +4,6 @@ use Rattle.lists.specs.Table.{counted, tableForm}
 use Rattle.rows.specs.View.{viewRows, rowsForm}
 use Rattle.rows.proofs.Rows.empty.Statement.{statement}
 use Rattle.rows.proofs.Rows.empty.Tie as tie
-use Rattle.rows.proofs.Rows.empty.Reads as reads
-use Rattle.rows.proofs.Rows.empty.Lts as lts
 
 returns : tie.Need-returns
 unfolding viewRows rowsForm counted tableForm

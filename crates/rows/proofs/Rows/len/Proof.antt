@@ -4,8 +4,6 @@ use Rattle.rows.specs.View.{viewRows}
 use borrow.Author.Needs.{needs}
 use Rattle.rows.proofs.Rows.len.Statement.{statement}
 use Rattle.rows.proofs.Rows.len.Tie as tie
-use Rattle.rows.proofs.Rows.len.Reads as reads
-use Rattle.rows.proofs.Rows.len.Lts as lts
 
 cast-if1 : tie.Need-cast-if1
 cast-if1 c = search needs

@@ -6,8 +6,6 @@ use Rattle.rows.specs.View.{viewRows, rowsForm}
 use borrow.Author.Needs.{needs}
 use Rattle.rows.proofs.Rows.push.Statement.{statement}
 use Rattle.rows.proofs.Rows.push.Tie as tie
-use Rattle.rows.proofs.Rows.push.Reads as reads
-use Rattle.rows.proofs.Rows.push.Lts as lts
 
 cast-at : tie.Need-cast-at
 cast-at c = search needs

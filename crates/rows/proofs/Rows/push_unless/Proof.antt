@@ -3,10 +3,6 @@ use Rattle.lists.proofs.Views.{unless-picked, unless-kept}
 use borrow.Author.Needs.{needs}
 use Rattle.rows.proofs.Rows.push_unless.Statement.{statement}
 use Rattle.rows.proofs.Rows.push_unless.Tie as tie
-use Rattle.rows.proofs.Rows.push_unless.Reads as reads
-use Rattle.rows.proofs.Rows.push_unless.Lts as lts
-use Rattle.rows.proofs.Picks.has.Reads as has-reads
-use Rattle.rows.proofs.Rows.push.Reads as push-reads
 
 has-requires : tie.Need-has-requires
 has-requires c κs = search needs

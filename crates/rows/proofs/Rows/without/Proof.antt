@@ -8,10 +8,6 @@ use Rattle.lists.proofs.Views.{Keeping, keep-start, keep-next, keep-end, keep-p
 use Rattle.rows.specs.View.{viewPicks, viewRows, rowsForm}
 use Rattle.rows.proofs.Rows.without.Statement.{statement}
 use Rattle.rows.proofs.Rows.without.Tie as tie
-use Rattle.rows.proofs.Rows.without.Reads as reads
-use Rattle.rows.proofs.Rows.without.Lts as lts
-use Rattle.rows.proofs.Rows.empty.Reads as empty-reads
-use Rattle.rows.proofs.Rows.push_unless.Reads as push-unless-reads
 
 abbrev Inv-loop : tie.InvT-loop
 Inv-loop picks self count kept₀ i₀ kept i =

@@ -4,10 +4,6 @@ use Rattle.store.proofs.StoreLaws.{changed-past, changed-at, changed-fo
 use borrow.Author.Needs.{needs}
 use Rattle.store.proofs.Store.changed.Statement.{statement}
 use Rattle.store.proofs.Store.changed.Tie as tie
-use Rattle.store.proofs.Store.changed.Reads as reads
-use Rattle.store.proofs.Store.changed.Lts as lts
-use Rattle.changes.proofs.Update.after.Reads as after-reads
-use Rattle.store.proofs.index_of.Reads as index-of-reads
 
 index-of-requires : tie.Need-index-of-requires
 index-of-requires c κs = search needs

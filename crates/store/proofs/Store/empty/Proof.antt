@@ -3,9 +3,6 @@ use Rattle.store.proofs.StoreLaws.{store-empty, empty-form}
 use borrow.Author.Needs.{needs}
 use Rattle.store.proofs.Store.empty.Statement.{statement}
 use Rattle.store.proofs.Store.empty.Tie as tie
-use Rattle.store.proofs.Store.empty.Reads as reads
-use Rattle.store.proofs.Store.empty.Lts as lts
-use Rattle.field.proofs.Field.empty.Reads as empty-reads
 
 empty-requires : tie.Need-empty-requires
 empty-requires c κs = search needs

@@ -4,10 +4,6 @@ use Rattle.store.proofs.StoreLaws.{field-past, field-at, field-form}
 use borrow.Author.Needs.{needs}
 use Rattle.store.proofs.Store.field.Statement.{statement}
 use Rattle.store.proofs.Store.field.Tie as tie
-use Rattle.store.proofs.Store.field.Reads as reads
-use Rattle.store.proofs.Store.field.Lts as lts
-use Rattle.field.proofs.Field.empty.Reads as empty-reads
-use Rattle.store.proofs.index_of.Reads as index-of-reads
 
 index-of-requires : tie.Need-index-of-requires
 index-of-requires c κs = search needs

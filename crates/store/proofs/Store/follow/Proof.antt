@@ -12,9 +12,6 @@ use Rattle.store.specs.View.{ranged, viewStore, storeForm}
 use Rattle.store.proofs.StoreLaws.{view-ranged, follow-fold}
 use Rattle.store.proofs.Store.follow.Statement.{statement}
 use Rattle.store.proofs.Store.follow.Tie as tie
-use Rattle.store.proofs.Store.follow.Reads as reads
-use Rattle.store.proofs.Store.follow.Lts as lts
-use Rattle.store.proofs.Store.changed.Reads as changed-reads
 
 abbrev Inv-loop : tie.InvT-loop
 Inv-loop cs count now₀ i₀ now i =

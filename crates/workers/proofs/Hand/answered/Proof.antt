@@ -7,9 +7,6 @@ use mathlib.Core.Path.{refl, ap}
 use borrow.Author.Needs.{needs}
 use Rattle.workers.proofs.Hand.answered.Statement.{statement}
 use Rattle.workers.proofs.Hand.answered.Tie as tie
-use Rattle.workers.proofs.Hand.answered.Reads as reads
-use Rattle.workers.proofs.Hand.answered.Lts as lts
-use Rattle.workers.proofs.Hand.handed.Reads as handed-reads
 
 handed-requires : tie.Need-handed-requires
 handed-requires c κs = search needs

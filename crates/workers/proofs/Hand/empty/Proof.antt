@@ -4,8 +4,6 @@ use Rattle.workers.specs.View.{viewHand}
 use mathlib.Core.Path.{refl}
 use Rattle.workers.proofs.Hand.empty.Statement.{statement}
 use Rattle.workers.proofs.Hand.empty.Tie as tie
-use Rattle.workers.proofs.Hand.empty.Reads as reads
-use Rattle.workers.proofs.Hand.empty.Lts as lts
 
 returns : tie.Need-returns
 unfolding viewHand handForm

@@ -2,8 +2,6 @@
 use Rattle.workers.proofs.HandLaws.{handed-full, handed-empty}
 use Rattle.workers.proofs.Hand.handed.Statement.{statement}
 use Rattle.workers.proofs.Hand.handed.Tie as tie
-use Rattle.workers.proofs.Hand.handed.Reads as reads
-use Rattle.workers.proofs.Hand.handed.Lts as lts
 
 returns : tie.Need-returns
 returns c = search handed-full

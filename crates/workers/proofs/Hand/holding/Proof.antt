@@ -4,8 +4,6 @@ use Rattle.workers.specs.View.{viewHand}
 use mathlib.Core.Path.{refl}
 use Rattle.workers.proofs.Hand.holding.Statement.{statement}
 use Rattle.workers.proofs.Hand.holding.Tie as tie
-use Rattle.workers.proofs.Hand.holding.Reads as reads
-use Rattle.workers.proofs.Hand.holding.Lts as lts
 
 returns : tie.Need-returns
 unfolding viewHand handForm

@@ -2,8 +2,6 @@
 use Rattle.workers.proofs.HandLaws.{holds-full, holds-empty}
 use Rattle.workers.proofs.Hand.holds.Statement.{statement}
 use Rattle.workers.proofs.Hand.holds.Tie as tie
-use Rattle.workers.proofs.Hand.holds.Reads as reads
-use Rattle.workers.proofs.Hand.holds.Lts as lts
 
 returns : tie.Need-returns
 returns c = search holds-full

@@ -2,8 +2,6 @@
 use Rattle.workers.proofs.HandLaws.{full-is}
 use Rattle.workers.proofs.Hand.is_full.Statement.{statement}
 use Rattle.workers.proofs.Hand.is_full.Tie as tie
-use Rattle.workers.proofs.Hand.is_full.Reads as reads
-use Rattle.workers.proofs.Hand.is_full.Lts as lts
 
 returns : tie.Need-returns
 returns c = full-is _

@@ -2,8 +2,6 @@
 use Rattle.workers.proofs.HandLaws.{replied-full, replied-empty}
 use Rattle.workers.proofs.Hand.is_replied.Statement.{statement}
 use Rattle.workers.proofs.Hand.is_replied.Tie as tie
-use Rattle.workers.proofs.Hand.is_replied.Reads as reads
-use Rattle.workers.proofs.Hand.is_replied.Lts as lts
 
 returns : tie.Need-returns
 returns c = search replied-full

@@ -9,9 +9,6 @@ use Rattle.workers.specs.View.{viewHand, viewHands}
 use Rattle.workers.proofs.HandLaws.{any-start}
 use Rattle.workers.proofs.Hands.any_holds.Statement.{statement}
 use Rattle.workers.proofs.Hands.any_holds.Tie as tie
-use Rattle.workers.proofs.Hands.any_holds.Reads as reads
-use Rattle.workers.proofs.Hands.any_holds.Lts as lts
-use Rattle.workers.proofs.Hand.holds.Reads as holds-reads
 
 abbrev Inv-loop : tie.InvT-loop
 Inv-loop n self i₀ i = Seeking viewHand (M.inHand n) (λ h. true) false 4 4 (self .all) (M.anyHand (viewHands self) n) i

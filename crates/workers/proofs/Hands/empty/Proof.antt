@@ -3,9 +3,6 @@ use Rattle.workers.proofs.HandLaws.{hands-empty, hands-form}
 use borrow.Author.Needs.{needs}
 use Rattle.workers.proofs.Hands.empty.Statement.{statement}
 use Rattle.workers.proofs.Hands.empty.Tie as tie
-use Rattle.workers.proofs.Hands.empty.Reads as reads
-use Rattle.workers.proofs.Hands.empty.Lts as lts
-use Rattle.workers.proofs.Hand.empty.Reads as empty-reads
 
 empty-requires : tie.Need-empty-requires
 empty-requires c κs = search needs

@@ -4,9 +4,6 @@ use Rattle.workers.proofs.HandLaws.{hand-past, hand-at, hand-form}
 use borrow.Author.Needs.{needs}
 use Rattle.workers.proofs.Hands.hand.Statement.{statement}
 use Rattle.workers.proofs.Hands.hand.Tie as tie
-use Rattle.workers.proofs.Hands.hand.Reads as reads
-use Rattle.workers.proofs.Hands.hand.Lts as lts
-use Rattle.workers.proofs.Hand.empty.Reads as empty-reads
 
 empty-requires : tie.Need-empty-requires
 empty-requires c κs = search needs

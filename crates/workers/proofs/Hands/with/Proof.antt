@@ -4,8 +4,6 @@ use Rattle.workers.proofs.HandLaws.{hands-with, hands-past, with-form}
 use borrow.Author.Needs.{needs}
 use Rattle.workers.proofs.Hands.with.Statement.{statement}
 use Rattle.workers.proofs.Hands.with.Tie as tie
-use Rattle.workers.proofs.Hands.with.Reads as reads
-use Rattle.workers.proofs.Hands.with.Lts as lts
 
 returns : tie.Need-returns
 returns c = (search (hands-past, length-mapped, needs), λ f g. f)

@@ -4,8 +4,6 @@ use Rattle.workers.specs.View.{viewQueue}
 use mathlib.Core.Path.{refl}
 use Rattle.workers.proofs.Queue.empty.Statement.{statement}
 use Rattle.workers.proofs.Queue.empty.Tie as tie
-use Rattle.workers.proofs.Queue.empty.Reads as reads
-use Rattle.workers.proofs.Queue.empty.Lts as lts
 
 returns : tie.Need-returns
 unfolding viewQueue queueForm

@@ -3,10 +3,6 @@ use Rattle.workers.proofs.QueueLaws.{end-own, end-other}
 use borrow.Author.Needs.{needs}
 use Rattle.workers.proofs.Queue.ended.Statement.{statement}
 use Rattle.workers.proofs.Queue.ended.Tie as tie
-use Rattle.workers.proofs.Queue.ended.Reads as reads
-use Rattle.workers.proofs.Queue.ended.Lts as lts
-use Rattle.workers.proofs.Queue.empty.Reads as empty-reads
-use Rattle.workers.proofs.Queue.is_owned_by.Reads as is-owned-by-reads
 
 is-owned-by-requires : tie.Need-is-owned-by-requires
 is-owned-by-requires c κs = search needs

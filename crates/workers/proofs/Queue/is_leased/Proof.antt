@@ -2,8 +2,6 @@
 use Rattle.workers.proofs.QueueLaws.{leased-is}
 use Rattle.workers.proofs.Queue.is_leased.Statement.{statement}
 use Rattle.workers.proofs.Queue.is_leased.Tie as tie
-use Rattle.workers.proofs.Queue.is_leased.Reads as reads
-use Rattle.workers.proofs.Queue.is_leased.Lts as lts
 
 returns : tie.Need-returns
 returns c = leased-is _

@@ -2,8 +2,6 @@
 use Rattle.workers.proofs.QueueLaws.{owned-yes, owned-no}
 use Rattle.workers.proofs.Queue.is_owned_by.Statement.{statement}
 use Rattle.workers.proofs.Queue.is_owned_by.Tie as tie
-use Rattle.workers.proofs.Queue.is_owned_by.Reads as reads
-use Rattle.workers.proofs.Queue.is_owned_by.Lts as lts
 
 returns : tie.Need-returns
 returns c = search owned-yes

@@ -3,9 +3,6 @@ use Rattle.workers.proofs.QueueLaws.{lapse-young, lapse-live, lapse-ove
 use borrow.Author.Needs.{needs}
 use Rattle.workers.proofs.Queue.lapsed.Statement.{statement}
 use Rattle.workers.proofs.Queue.lapsed.Tie as tie
-use Rattle.workers.proofs.Queue.lapsed.Reads as reads
-use Rattle.workers.proofs.Queue.lapsed.Lts as lts
-use Rattle.workers.proofs.Queue.empty.Reads as empty-reads
 
 returns : tie.Need-returns
 returns c = (search lapse-young, λ f. f)

@@ -3,9 +3,6 @@ use Rattle.workers.proofs.QueueLaws.{cut-own, cut-other, cut-form}
 use borrow.Author.Needs.{needs}
 use Rattle.workers.proofs.Queue.orphaned.Statement.{statement}
 use Rattle.workers.proofs.Queue.orphaned.Tie as tie
-use Rattle.workers.proofs.Queue.orphaned.Reads as reads
-use Rattle.workers.proofs.Queue.orphaned.Lts as lts
-use Rattle.workers.proofs.Queue.is_owned_by.Reads as is-owned-by-reads
 
 is-owned-by-requires : tie.Need-is-owned-by-requires
 is-owned-by-requires c κs = search needs

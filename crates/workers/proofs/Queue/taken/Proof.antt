@@ -4,8 +4,6 @@ use Rattle.workers.specs.View.{viewQueue, ownerOf}
 use mathlib.Core.Path.{refl}
 use Rattle.workers.proofs.Queue.taken.Statement.{statement}
 use Rattle.workers.proofs.Queue.taken.Tie as tie
-use Rattle.workers.proofs.Queue.taken.Reads as reads
-use Rattle.workers.proofs.Queue.taken.Lts as lts
 
 returns : tie.Need-returns
 unfolding viewQueue queueForm ownerOf
