@@ -10,6 +10,7 @@ use mir.Syntax.{w64}
 use mir.Val.{SFits, Fits, toZ, ofZ}
 use mir.Facts.{toZ-ofZ}
 use borrow.Author.Tests.{lt-ltb, le-ltb, ltb-true, ltb-false}
+use Rattle.rules.proofs.Laws.{byCase}
 use Rattle.rules.specs.Values.{below, natOf}
 
 abbrev pub held : ℤ → ℤ
@@ -84,3 +85,6 @@ module _ (z : ℤ) (w : SFits w64 z) (k r : ℕ) (e : r ≡ cond (below (held z)
       go : (y : ℤ) → below y k ≡ true → r ≡ natOf y → ltb r k ≡ true
       go (pos n) b q = ap (λ (m : ℕ). ltb m k) q ∙ b
       go (negsuc n) b q = absurd (true≢false (sym b))
+
+  pub index-test : ltb r k ≡ below z k
+  index-test = byCase (ltb r k) (λ t. t ∙ sym (inside (ltb-true r k t))) (λ t. t ∙ sym (outside (ltb-false r k t)))

@@ -1,0 +1,3 @@
+-- Laws of a caller's changes.
+mod Reading
+pub mod Meeting
