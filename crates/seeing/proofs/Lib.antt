@@ -1,0 +1,2 @@
+-- Laws of what a session sees.
+pub mod Laws

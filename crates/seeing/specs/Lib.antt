@@ -1,0 +1,2 @@
+-- A place's value.
+pub mod Value
