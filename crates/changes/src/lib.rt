@@ -22,7 +22,7 @@ pub struct Update {
 }
 
 // Set and unset make a field whatever it was.
-fn is_set(kind: u8) -> bool
+pub fn is_set(kind: u8) -> bool
     ensures { λ r. ⌜ r ≡ isSet (kindOf kind) ⌝ }
 {
     if kind == Update::SET {

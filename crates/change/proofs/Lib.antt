@@ -1,0 +1,3 @@
+-- Laws of change.
+mod Laws
+mod Left

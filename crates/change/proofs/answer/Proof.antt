@@ -1,0 +1,50 @@
+-- `answer` meets its contract.
+use Rattle.change.proofs.Laws.{out-of-range, no-slot, was-doomed, meeting}
+use borrow.Author.Needs.{needs}
+use Rattle.change.proofs.answer.Statement.{statement}
+use Rattle.change.proofs.answer.Tie as tie
+
+update-requires : tie.Need-update-requires
+update-requires c κs = search needs
+
+returns : tie.Need-returns
+returns c = search (out-of-range, needs)
+
+session-requires : tie.Need-session-requires
+session-requires c κs = search needs
+
+has-requires : tie.Need-has-requires
+has-requires c κs = search needs
+
+returns-2 : tie.Need-returns-2
+returns-2 c = search (no-slot, needs)
+
+session-requires-2 : tie.Need-session-requires-2
+session-requires-2 c κs = search needs
+
+is-doomed-requires : tie.Need-is-doomed-requires
+is-doomed-requires c κs = search needs
+
+returns-3 : tie.Need-returns-3
+returns-3 c = search (was-doomed, needs)
+
+later-requires : tie.Need-later-requires
+later-requires c κs = search needs
+
+returns-4 : tie.Need-returns-4
+returns-4 c = search (meeting, needs)
+
+pub answer-spec : {M : Type 1} → statement M
+answer-spec =
+    tie.close
+    (tie.spec
+    update-requires
+    returns
+    session-requires
+    has-requires
+    returns-2
+    session-requires-2
+    is-doomed-requires
+    returns-3
+    later-requires
+    returns-4)

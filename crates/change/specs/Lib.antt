@@ -1,0 +1,2 @@
+-- What a change meets.
+pub mod Met

@@ -1,0 +1,107 @@
+// Change: a session changes a field, under an exclusive lease on its document.
+ghost use mathlib.Core.Path.{_≡_};
+ghost use mathlib.Core.Bool.{true, not, _&&_};
+ghost use mathlib.Core.List.{List, [], _∷_};
+ghost use lib.IntN.{ℤ};
+ghost use Rattle.rules.specs.Changes.{isSet, kindOf, meets};
+ghost use Rattle.rules.specs.Calls.{Change};
+ghost use Rattle.rules.specs.Reading.{known};
+ghost use Rattle.keys.specs.View.{viewPlace};
+ghost use Rattle.field.specs.View.{viewField};
+ghost use Rattle.changes.specs.View.{viewChanges, viewUpdate};
+ghost use Rattle.plant.specs.View.{viewPlant, plantForm};
+ghost use Rattle.answers.specs.View.{viewAnswer};
+ghost use Rattle.promises.specs.Promise.{Answers, Leaves};
+ghost use Rattle.change.specs.Met.{told, laterAnswer};
+use answers::Answer;
+use answers::Refusal;
+use changes::Changes;
+use changes::Update;
+use field::Field;
+use plant::Plant;
+
+// The change needs the field that is there, and it is not known.
+fn is_unknown(p: Plant, own: Changes, c: Update) -> bool
+    ensures { λ r. ⌜ r ≡ not (isSet (kindOf (c .kind))) && not (known (viewPlant p) (viewChanges own) (viewPlace (c .place))) ⌝ }
+{
+    if changes::is_set(c.kind) {
+        return false;
+    }
+    !seeing::known(p, own, c.place)
+}
+
+// The answer of a change at a field, where the session has count changes with it.
+fn met(f: Field, c: Update, count: u8) -> Answer
+    ensures { λ r. ⌜ viewAnswer r ≡ told (meets (viewUpdate c) (viewField f)) count ⌝ }
+{
+    let applied = f.changed(c.kind, c.value);
+    if applied.refusal == 0 {
+        return Answer::Changed(count);
+    }
+    let refusal = requests::refusal(applied.refusal);
+    Answer::Refused(refusal)
+}
+
+// The answer from refusal 5 on, of a change of session n whose own changes so far are these.
+fn later(p: Plant, n: u32, own: Changes, c: Update) -> Answer
+    ensures { λ r. ⌜ viewAnswer r ≡ laterAnswer (viewPlant p) n (viewChanges own) (viewUpdate c) ⌝ }
+{
+    let count = own.len();
+    if Changes::LIMIT <= count as usize {
+        return Answer::Refused(Refusal::ChangesFull);
+    }
+    if p.sessions.others_exclusive(n, c.place.document) {
+        return Answer::Refused(Refusal::ExclusiveElsewhere);
+    }
+    if is_unknown(p, own, c) {
+        return Answer::Refused(Refusal::StoreAway);
+    }
+    let f = seeing::field(p, own, c.place);
+    met(f, c, count + 1)
+}
+
+pub fn answer(p: Plant, session: i64, document: i64, field: i64, kind: i64, value: i64) -> Answer
+    ensures { λ r. ⌜ ((lent : List ℤ) → Answers (Change session document field kind value) lent p r) ⌝ }
+{
+    let c = requests::update(document, field, kind, value);
+    if c.kind == 0 {
+        return Answer::Refused(Refusal::OutOfRange);
+    }
+    let n = arguments::session(session);
+    if !p.sessions.has(n) {
+        return Answer::Refused(Refusal::NoSlot);
+    }
+    let s = p.sessions.session(n);
+    if s.is_doomed() {
+        return Answer::Refused(Refusal::WasDoomed);
+    }
+    later(p, n, s.changes, c)
+}
+
+pub fn after(
+    mut p: Plant,
+    session: i64,
+    document: i64,
+    field: i64,
+    kind: i64,
+    value: i64,
+    a: Answer,
+) -> Plant
+    ensures shows { λ r. ⌜ Leaves (Change session document field kind value) p a r ⌝ }
+    ensures form { λ r. ⌜ (plantForm p ≡ true → plantForm r ≡ true) ⌝ }
+{
+    if a.ends_session() {
+        return ending::ended(p, session);
+    }
+    if a.is_refused() {
+        return p;
+    }
+    let c = requests::update(document, field, kind, value);
+    if c.kind == 0 {
+        return p;
+    }
+    let n = arguments::session(session);
+    let now = p.clock;
+    p.sessions = p.sessions.changed(n, c, now);
+    p
+}
