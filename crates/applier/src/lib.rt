@@ -1,0 +1,2 @@
+// The calls that write the store's rows: what each answers, and the plant it leaves.
+pub mod apply;
