@@ -1,2 +1,3 @@
 -- Laws that the proofs of the calls use.
+pub mod Chosen
 pub mod Telling
