@@ -6,7 +6,7 @@ use Prim.Native.Nat.{ℕ, zero, suc}
 use native.Mathlib.Omega.{arith}
 use lib.Dec.{eqb}
 use lib.IntN.{ℤ}
-use lib.ListN.{length, take, length-take}
+use lib.ListN.{take, length-take}
 use Rattle.rules.specs.Limits.{sweepLimit}
 use Rattle.rules.specs.Lists.{keep, any, all, isEmpty, has}
 use Rattle.rules.specs.Tables as M
