@@ -9,9 +9,10 @@ use native.Mathlib.Numerals.{add-one}
 use native.Mathlib.Omega.{arith}
 use lib.Dec.{ltb, eqb, eqb·suc-zero}
 use lib.ListN.{length, getD, take, drop, set, drop-of-length-le, length-take, length-append, length-map, List·getD-map, List·getD-eq-default}
-use lib.Seq.{take-suc-set, getD-take}
-use borrow.Author.Tests.{lt-ltb, le-ltb}
+use lib.Seq.{take-suc-set, getD-take, take-all, take-at}
+use borrow.Author.Tests.{lt-ltb, le-ltb, ltb-true, ltb-false}
 use Rattle.rules.specs.Lists.{from, keep, pushed, isEmpty}
+use Rattle.rules.proofs.Laws.{byCase}
 use Rattle.lists.specs.Find.{firstAt, fold, mapFrom}
 use Rattle.lists.specs.Table.{counted}
 use Rattle.lists.proofs.Loops.{drop-take-next, first-hit, first-miss, filled, fill-step, fill-end, getD-within}
@@ -275,3 +276,23 @@ module _ {A B C : Type 0} {view : A → B} {f : C → B → C} {n k : ℕ} {xs :
   pub work-past : k ≤ i → b ≡ whole
   unfolding fold
   work-past h = sym (inv .rest ∙ simp (counted-gone view n xs i k (inv .long) (inr h)))
+
+-- ---- folded so, the entries that pass a test are kept, but for no more than m
+module _ {A : Type 0} (m : ℕ) (p : A → Bool) where
+  abbrev pub keepRoom : List A → A → List A
+  keepRoom acc x = cond (p x) (pushed m acc x) acc
+
+  more-kept : (l acc : List A) → length acc ≤ m → fold keepRoom acc l ≡ take m (acc ++ keep p l)
+  unfolding fold pushed
+  more-kept [] acc h = sym (rw append-nil (take-all m acc h))
+  more-kept (x ∷ l) acc h =
+      byCase (p x)
+      (λ e. byCase (ltb (length acc) m)
+      (λ t. let u = ltb-true (length acc) m t in
+      rw (e, t) (more-kept l (acc ++ (x ∷ [])) (simp length-append (omega arith)) ∙ simp append-assoc))
+      (λ t. let u : length acc ≡ m = omega (arith, ltb-false (length acc) m t) in
+      rw (e, t) (more-kept l acc h ∙ take-at acc (keep p l) m u ∙ sym (take-at acc (x ∷ keep p l) m u))))
+      (λ e. rw e (more-kept l acc h))
+
+  pub first-kept : (l : List A) → take m (keep p l) ≡ fold keepRoom [] l
+  first-kept l = sym (more-kept l [] (omega arith))

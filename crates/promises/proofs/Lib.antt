@@ -1,4 +1,5 @@
 -- Laws that the proofs of the calls use.
+pub mod Chosen
 pub mod Telling
 pub mod Leaving
 pub mod Numbers

@@ -66,6 +66,16 @@ impl Picks {
         picks.count = self.count + 1;
         picks
     }
+
+    pub fn len(self) -> u8
+        ensures { λ r. ⌜ r ≡ length (viewPicks self) ⌝ }
+    {
+        let n = self.count;
+        if Self::LIMIT <= n as usize {
+            return Self::LIMIT as u8;
+        }
+        n
+    }
 }
 
 // The rows in the store: the numbers of applied sessions, in the order in which they came to stand.

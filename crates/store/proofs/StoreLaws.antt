@@ -8,11 +8,12 @@ use lib.ListN.{length, getD, set, replicate}
 use lib.Dec.{eqb, ltb}
 use borrow.Author.Tests.{ltb-true, lt-ltb, le-ltb, eqb-true, eqb-false, eq-eqb}
 use Rattle.rules.specs.Limits.{documentCount, fieldCount}
-use Rattle.rules.specs.Lists.{override}
+use Rattle.rules.specs.Lists.{all, override}
 use Rattle.rules.specs.Values as S
 use Rattle.rules.specs.Values.{inRange, samePlace}
 use Rattle.rules.specs.Changes as C
 use Rattle.rules.proofs.Laws.{byCase, and-true, both, samePlace-is}
+use Rattle.rules.proofs.Words.{run-untouched}
 use Rattle.keys.specs.View.{viewPlace}
 use Rattle.keys.specs.declared.Place.{Place}
 use Rattle.field.specs.View.{viewField, fieldForm}
@@ -153,3 +154,20 @@ follow-fold (c ∷ cs) s e = step ∙ follow-fold cs (ranged (C.follow s (c ∷ 
   where
     step : ranged (C.follow s (c ∷ cs)) ≡ ranged (C.follow (ranged (C.follow s (c ∷ []))) cs)
     step = fun-ext (λ q. byCase (inRange q) (λ w. rw w) (λ w. rw w))
+
+-- changes of places that there are leave nothing at others
+elsewhere-untouched : (cs : List C.Update) (q : S.Place) → all C.updateOk cs ≡ true → inRange q ≡ false → C.touches cs q ≡ false
+elsewhere-untouched [] q a o = refl
+elsewhere-untouched (c ∷ cs) q a o =
+    let h = and-true (C.updateOk c) (all C.updateOk cs) a in
+    let i = and-true (inRange (c .at)) (C.goodValue (c .kind) (c .value)) (h .0) .0 in
+    byCase (samePlace q (c .at))
+    (λ u. absurd (true≢false (sym i ∙ ap (λ (z : S.Place). inRange z) (sym (samePlace-is q (c .at) u)) ∙ o)))
+    (λ u. rw u (elsewhere-untouched cs q (h .1) o))
+
+pub follow-within : (cs : List C.Update) (s : S.Stock) → ranged s ≡ s → all C.updateOk cs ≡ true → ranged (C.follow s cs) ≡ C.follow s cs
+unfolding ranged
+follow-within cs s e a =
+    fun-ext (λ q. byCase (inRange q)
+    (λ w. rw w)
+    (λ w. rw w (sym (run-untouched cs q (s q) (elsewhere-untouched cs q a w) ∙ sym (ap (λ (r : S.Stock). r q) e) ∙ rw w refl))))

@@ -1,0 +1,1 @@
+-- Laws of apply and sweep.

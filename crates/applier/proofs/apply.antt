@@ -1,0 +1,2 @@
+-- Laws of apply.
+mod Laws

@@ -1,0 +1,2 @@
+-- Laws of sweep.
+mod Laws

@@ -1,0 +1,2 @@
+-- What the parts of the calls promise.
+pub mod Told
