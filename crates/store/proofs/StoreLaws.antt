@@ -8,7 +8,7 @@ use lib.ListN.{length, getD, set, replicate}
 use lib.Dec.{eqb, ltb}
 use borrow.Author.Tests.{ltb-true, lt-ltb, le-ltb, eqb-true, eqb-false, eq-eqb}
 use Rattle.rules.specs.Limits.{documentCount, fieldCount}
-use Rattle.rules.specs.Lists.{override}
+use Rattle.rules.specs.Lists.{all, override}
 use Rattle.rules.specs.Values as S
 use Rattle.rules.specs.Values.{inRange, samePlace}
 use Rattle.rules.specs.Changes as C
@@ -153,3 +153,20 @@ follow-fold (c ∷ cs) s e = step ∙ follow-fold cs (ranged (C.follow s (c ∷ 
   where
     step : ranged (C.follow s (c ∷ cs)) ≡ ranged (C.follow (ranged (C.follow s (c ∷ []))) cs)
     step = fun-ext (λ q. byCase (inRange q) (λ w. rw w) (λ w. rw w))
+
+-- changes of places that there are leave the others alone
+run-elsewhere : (cs : List C.Update) (q : S.Place) (f : S.Field) → inRange q ≡ false → all (λ c. inRange (c .at)) cs ≡ true → C.run cs q f ≡ f
+unfolding C.fieldAfter
+run-elsewhere [] q f o h = refl
+run-elsewhere (c ∷ cs) q f o h = ap (C.run cs q) here ∙ run-elsewhere cs q f o (and-true (inRange (c .at)) (all (λ d. inRange (d .at)) cs) h .1)
+  where
+    here : C.fieldAfter q f c ≡ f
+    here = byCase (samePlace q (c .at)) (λ u. absurd (true≢false (sym (and-true (inRange (c .at)) (all (λ d. inRange (d .at)) cs) h .0) ∙ ap (λ (z : S.Place). inRange z) (sym (samePlace-is q (c .at) u)) ∙ o))) (λ u. rw u)
+
+pub follow-within : (cs : List C.Update) (s : S.Stock) → ranged s ≡ s → all (λ c. inRange (c .at)) cs ≡ true → ranged (C.follow s cs) ≡ C.follow s cs
+unfolding ranged
+follow-within cs s e h =
+    fun-ext (λ q. byCase (inRange q)
+    (λ t. rw t)
+    (λ t. let z : S.absent ≡ s q = ap (λ (b : Bool). cond b (s q) S.absent) (sym t) ∙ ap (λ (x : S.Stock). x q) e in
+    rw t (z ∙ sym (run-elsewhere cs q (s q) t h))))
