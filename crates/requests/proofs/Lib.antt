@@ -1,3 +1,5 @@
 -- Laws of a caller's changes.
 mod Reading
+-- what callers learn
+pub mod Asked
 pub mod Meeting

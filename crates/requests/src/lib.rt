@@ -3,16 +3,18 @@ ghost use mathlib.Core.Path.{_≡_};
 ghost use mathlib.Core.Bool.{true, _&&_, cond, not};
 ghost use lib.Dec.{eqb};
 ghost use Rattle.rules.specs.Values.{inRange, natOf};
-ghost use Rattle.rules.specs.Changes.{kindOf, goodKind, goodValue, placeOf, updateOf};
+ghost use Rattle.rules.specs.Changes.{kindOf, meets, goodKind, goodValue, placeOf, updateOf};
 ghost use Rattle.rules.specs.Conditions.{goodPlace, goodChange};
 ghost use Rattle.keys.specs.View.{viewPlace};
-ghost use Rattle.field.specs.View.{refusalOf};
+ghost use Rattle.field.specs.View.{viewField, refusalOf};
 ghost use Rattle.changes.specs.View.{viewUpdate};
 ghost use Rattle.changes.specs.Form.{isUsed};
 ghost use Rattle.answers.specs.View.{viewRefusal};
+ghost use Rattle.requests.specs.View.{refusalAt};
 use answers::Refusal;
 use changes::Update;
 use field::Applied;
+use field::Field;
 use keys::Place;
 
 const DOCUMENTS: u8 = 64;
@@ -94,6 +96,14 @@ pub fn update(document: i64, field: i64, kind: i64, value: i64) -> Update
         kind: k,
         value: value as i32,
     }
+}
+
+// The number of the refusal that a change meets at a field, DONE where it meets none.
+pub fn met(c: Update, f: Field) -> u8
+    ensures { λ r. ⌜ refusalAt r ≡ meets (viewUpdate c) (viewField f) ⌝ }
+{
+    let made = f.changed(c.kind, c.value);
+    made.refusal
 }
 
 // The refusal of a number, of the three that a change can meet.

@@ -13,7 +13,6 @@ use Rattle.rules.specs.Values as S
 use Rattle.rules.specs.Values.{inRange, samePlace}
 use Rattle.rules.specs.Changes as C
 use Rattle.rules.proofs.Laws.{byCase, and-true, both, samePlace-is}
-use Rattle.rules.proofs.Words.{run-untouched}
 use Rattle.keys.specs.View.{viewPlace}
 use Rattle.keys.specs.declared.Place.{Place}
 use Rattle.field.specs.View.{viewField, fieldForm}
@@ -155,19 +154,26 @@ follow-fold (c ∷ cs) s e = step ∙ follow-fold cs (ranged (C.follow s (c ∷ 
     step : ranged (C.follow s (c ∷ cs)) ≡ ranged (C.follow (ranged (C.follow s (c ∷ []))) cs)
     step = fun-ext (λ q. byCase (inRange q) (λ w. rw w) (λ w. rw w))
 
--- changes of places that there are leave nothing at others
-elsewhere-untouched : (cs : List C.Update) (q : S.Place) → all C.updateOk cs ≡ true → inRange q ≡ false → C.touches cs q ≡ false
-elsewhere-untouched [] q a o = refl
-elsewhere-untouched (c ∷ cs) q a o =
-    let h = and-true (C.updateOk c) (all C.updateOk cs) a in
-    let i = and-true (inRange (c .at)) (C.goodValue (c .kind) (c .value)) (h .0) .0 in
-    byCase (samePlace q (c .at))
-    (λ u. absurd (true≢false (sym i ∙ ap (λ (z : S.Place). inRange z) (sym (samePlace-is q (c .at) u)) ∙ o)))
-    (λ u. rw u (elsewhere-untouched cs q (h .1) o))
+-- changes of places that there are leave the others alone
+run-elsewhere : (cs : List C.Update) (q : S.Place) (f : S.Field) → inRange q ≡ false → all (λ c. inRange (c .at)) cs ≡ true → C.run cs q f ≡ f
+unfolding C.fieldAfter
+run-elsewhere [] q f o h = refl
+run-elsewhere (c ∷ cs) q f o h = ap (C.run cs q) here ∙ run-elsewhere cs q f o (and-true (inRange (c .at)) (all (λ d. inRange (d .at)) cs) h .1)
+  where
+    here : C.fieldAfter q f c ≡ f
+    here = byCase (samePlace q (c .at)) (λ u. absurd (true≢false (sym (and-true (inRange (c .at)) (all (λ d. inRange (d .at)) cs) h .0) ∙ ap (λ (z : S.Place). inRange z) (sym (samePlace-is q (c .at) u)) ∙ o))) (λ u. rw u)
 
-pub follow-within : (cs : List C.Update) (s : S.Stock) → ranged s ≡ s → all C.updateOk cs ≡ true → ranged (C.follow s cs) ≡ C.follow s cs
+pub follow-within : (cs : List C.Update) (s : S.Stock) → ranged s ≡ s → all (λ c. inRange (c .at)) cs ≡ true → ranged (C.follow s cs) ≡ C.follow s cs
 unfolding ranged
-follow-within cs s e a =
+follow-within cs s e h =
     fun-ext (λ q. byCase (inRange q)
-    (λ w. rw w)
-    (λ w. rw w (sym (run-untouched cs q (s q) (elsewhere-untouched cs q a w) ∙ sym (ap (λ (r : S.Stock). r q) e) ∙ rw w refl))))
+    (λ t. rw t)
+    (λ t. let z : S.absent ≡ s q = ap (λ (b : Bool). cond b (s q) S.absent) (sym t) ∙ ap (λ (x : S.Stock). x q) e in
+    rw t (z ∙ sym (run-elsewhere cs q (s q) t h))))
+
+-- those that a table may hold are such
+pub ok-within : (cs : List C.Update) → all C.updateOk cs ≡ true → all (λ c. inRange (c .at)) cs ≡ true
+ok-within [] h = refl
+ok-within (c ∷ cs) h =
+    let x = and-true (C.updateOk c) (all C.updateOk cs) h in
+    both (inRange (c .at)) (all (λ d. inRange (d .at)) cs) (and-true (inRange (c .at)) (C.goodValue (c .kind) (c .value)) (x .0) .0) (ok-within cs (x .1))

@@ -1,0 +1,1 @@
+-- Laws of the calls of the clock and of the way to the store.

@@ -1,0 +1,2 @@
+-- Laws of advance.
+mod Laws

@@ -1,0 +1,46 @@
+-- `advance::after` meets its contract.
+use Rattle.clockwork.proofs.advance.Laws.{turned-away, gone-on, gone-on-form}
+use borrow.Author.Needs.{needs}
+use Rattle.clockwork.proofs.advance.after.Statement.{statement}
+use Rattle.clockwork.proofs.advance.after.Tie as tie
+
+is-refused-requires : tie.Need-is-refused-requires
+is-refused-requires c κs = search needs
+
+returns : tie.Need-returns
+returns c = (search (turned-away, needs), λ f. f)
+
+ticks-of-requires : tie.Need-ticks-of-requires
+ticks-of-requires c κs = search needs
+
+later-requires : tie.Need-later-requires
+later-requires c κs = search needs
+
+lost-requires : tie.Need-lost-requires
+lost-requires c κs = search needs
+
+without-requires : tie.Need-without-requires
+without-requires c κs = search needs
+
+lapsed-requires : tie.Need-lapsed-requires
+lapsed-requires c κs = search needs
+
+lapsed-requires-2 : tie.Need-lapsed-requires-2
+lapsed-requires-2 c κs = search needs
+
+returns-2 : tie.Need-returns-2
+returns-2 c = search (gone-on, gone-on-form, needs)
+
+pub after-spec : {M : Type 1} → statement M
+after-spec =
+    tie.close
+    (tie.spec
+    is-refused-requires
+    returns
+    ticks-of-requires
+    later-requires
+    lost-requires
+    without-requires
+    lapsed-requires
+    lapsed-requires-2
+    returns-2)

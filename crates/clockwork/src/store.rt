@@ -1,0 +1,33 @@
+// Store: the data store is near or away from now on.
+ghost use mathlib.Core.Path.{_≡_};
+ghost use mathlib.Core.Bool.{true};
+ghost use mathlib.Core.List.{List};
+ghost use lib.IntN.{ℤ};
+ghost use Rattle.rules.specs.Calls.{Store};
+ghost use Rattle.plant.specs.View.{plantForm};
+ghost use Rattle.promises.specs.Promise.{Answers, Leaves};
+use answers::Answer;
+use answers::Refusal;
+use plant::Plant;
+
+const NEAR: u8 = 1;
+
+pub fn answer(p: Plant, mark: i64) -> Answer
+    ensures { λ r. ⌜ ((lent : List ℤ) → Answers (Store mark) lent p r) ⌝ }
+{
+    if NEAR < arguments::index(mark, NEAR + 1) {
+        return Answer::Refused(Refusal::OutOfRange);
+    }
+    Answer::Done
+}
+
+pub fn after(mut p: Plant, mark: i64, a: Answer) -> Plant
+    ensures shows { λ r. ⌜ Leaves (Store mark) p a r ⌝ }
+    ensures form { λ r. ⌜ (plantForm p ≡ true → plantForm r ≡ true) ⌝ }
+{
+    if a.is_refused() {
+        return p;
+    }
+    p.near = arguments::index(mark, NEAR + 1) == NEAR;
+    p
+}

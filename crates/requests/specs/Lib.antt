@@ -1,0 +1,2 @@
+-- A change's refusal as the rules see it.
+pub mod View

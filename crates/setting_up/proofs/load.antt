@@ -1,0 +1,2 @@
+-- Laws of load.
+mod Laws

@@ -1,0 +1,24 @@
+-- `load::after` meets its contract.
+use Rattle.setting_up.proofs.load.Laws.{turned-away, made, made-form}
+use borrow.Author.Needs.{needs}
+use Rattle.setting_up.proofs.load.after.Statement.{statement}
+use Rattle.setting_up.proofs.load.after.Tie as tie
+
+is-refused-requires : tie.Need-is-refused-requires
+is-refused-requires c κs = search needs
+
+returns : tie.Need-returns
+returns c = (search (turned-away, needs), λ f. f)
+
+update-requires : tie.Need-update-requires
+update-requires c κs = search needs
+
+changed-requires : tie.Need-changed-requires
+changed-requires c κs = search needs
+
+returns-2 : tie.Need-returns-2
+returns-2 c = search (made, made-form, needs)
+
+pub after-spec : {M : Type 1} → statement M
+after-spec =
+    tie.close (tie.spec is-refused-requires returns update-requires changed-requires returns-2)
