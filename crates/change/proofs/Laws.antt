@@ -16,7 +16,7 @@ use Rattle.rules.specs.Limits.{documentCount, fieldCount, lastSession, changeLi
 use Rattle.rules.specs.Values.{below, natOf, Place, inRange}
 use Rattle.rules.specs.Values as S
 use Rattle.rules.specs.Refusals.{Refusal, outOfRange, noSlot, wasDoomed, changesFull, exclusiveElsewhere, storeAway, _⇒_, first}
-use Rattle.rules.specs.Changes.{Outcome, outcomeRefusal, change, kindOf, isSet, meets, placeOf, updateOf}
+use Rattle.rules.specs.Changes.{kindOf, isSet, meets, placeOf, updateOf}
 use Rattle.rules.specs.Changes as C
 use Rattle.rules.specs.Tables as M
 use Rattle.rules.specs.Calls.{Change, Call, Pick, refused, fine}
@@ -28,9 +28,8 @@ use Rattle.rules.proofs.Laws.{byCase, and-true, below-is, both}
 use Rattle.rules.proofs.Away.{set-meets}
 use Rattle.arguments.proofs.Numbers.{held}
 use Rattle.keys.specs.View.{viewPlace}
-use Rattle.field.specs.View.{viewField, viewApplied, refusalOf}
+use Rattle.field.specs.View.{viewField, refusalOf}
 use Rattle.field.specs.declared.Field.{Field}
-use Rattle.field.specs.declared.Applied.{Applied}
 use Rattle.changes.specs.View.{viewChanges, viewUpdate}
 use Rattle.changes.specs.declared.Changes.{Changes}
 use Rattle.changes.specs.declared.Update.{Update}
@@ -44,6 +43,7 @@ use Rattle.answers.specs.declared.Answer.{Answer}
 use Rattle.answers.specs.declared.Refusal as D
 use Rattle.promises.specs.Promise.{chosen, result}
 use Rattle.promises.proofs.Telling.{refuses, accepts}
+use Rattle.requests.specs.View.{refusalAt}
 use Rattle.ending.proofs.Standing.{has-slot, its-session, its-number}
 use Rattle.seeing.specs.Value.{value}
 use Rattle.seeing.proofs.Laws.{value-seen}
@@ -58,14 +58,14 @@ module _ (k : ℕ) (x : Bool) (s : Bool) (es : s ≡ isSet (kindOf k)) where
   needs-it h b eb = rw (sym es, h, eb) refl
 
 -- ── what it meets at its field ──
-module _ (c : Update) (f : Field) (a : Applied) (e : viewApplied a ≡ change (kindOf (c .kind)) (c .value) (viewField f)) (n : ℕ) where
-  pub meets-none : a .refusal ≡ 0 → fine (n ∷ []) ≡ told (meets (viewUpdate c) (viewField f)) n
-  unfolding meets viewUpdate viewApplied outcomeRefusal
-  meets-none h = rw (sym e, eq-eqb (a .refusal) 0 h) refl
+module _ (m : Option Refusal) (k : ℕ) (e : refusalAt k ≡ m) (n : ℕ) where
+  pub meets-none : k ≡ 0 → fine (n ∷ []) ≡ told m n
+  unfolding refusalAt
+  meets-none h = rw (sym e, eq-eqb k 0 h) refl
 
-  pub meets-one : (a .refusal ≡ 0 → ⊥) → (r : D.Refusal) → viewRefusal r ≡ refusalOf (a .refusal) → refused (viewRefusal r) ≡ told (meets (viewUpdate c) (viewField f)) n
-  unfolding meets viewUpdate viewApplied outcomeRefusal
-  meets-one h r er = ap refused er ∙ rw (sym e, ne-eqb (a .refusal) 0 h) refl
+  pub meets-one : (k ≡ 0 → ⊥) → (r : D.Refusal) → viewRefusal r ≡ refusalOf k → refused (viewRefusal r) ≡ told m n
+  unfolding refusalAt
+  meets-one h r er = ap refused er ∙ rw (sym e, ne-eqb k 0 h) refl
 
 -- ── from 5 on ──
 first-one : (o : Option Refusal) → first (o ∷ []) ≡ o

@@ -73,6 +73,6 @@ module _ (p : Plant) (z d f k v : ℤ) (fd : SFits w64 d) (ff : SFits w64 f) (fk
         rw (et, in-stock g, update-is p z d f k v fd ff fk fv c eg ec g, q) refl
         ∙ left-accepted (Change z d f k v) lent (chosen (viewPlant p)) (viewPlant p) m
 
-    pub changes-form : (c .kind ≡ 0 → ⊥) → (goodPlace (held d) (held f) && goodChange (held k) (held v) ≡ true → isUsed c ≡ true)
-        → (isUsed c ≡ true → sessionsForm (p .sessions) ≡ true → sessionsForm t ≡ true) → plantForm p ≡ true → plantForm (withSessions p t) ≡ true
-    changes-form g u s = sessions-form p t (s (u (sym eg ∙ ap not (ne-eqb (c .kind) 0 g))))
+pub changes-form : (p : Plant) (t : Sessions) (c : Update) (g : Bool) → not (eqb (c .kind) 0) ≡ g → (g ≡ true → isUsed c ≡ true) → (c .kind ≡ 0 → ⊥)
+    → (isUsed c ≡ true → sessionsForm (p .sessions) ≡ true → sessionsForm t ≡ true) → plantForm p ≡ true → plantForm (withSessions p t) ≡ true
+changes-form p t c g eg u h s = sessions-form p t (s (u (sym eg ∙ ap not (ne-eqb (c .kind) 0 h))))

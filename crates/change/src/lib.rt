@@ -17,6 +17,7 @@ use answers::Answer;
 use answers::Refusal;
 use changes::Changes;
 use changes::Update;
+use field::Applied;
 use field::Field;
 use plant::Plant;
 
@@ -34,11 +35,11 @@ fn is_unknown(p: Plant, own: Changes, c: Update) -> bool
 fn met(f: Field, c: Update, count: u8) -> Answer
     ensures { λ r. ⌜ viewAnswer r ≡ told (meets (viewUpdate c) (viewField f)) count ⌝ }
 {
-    let applied = f.changed(c.kind, c.value);
-    if applied.refusal == 0 {
+    let number = requests::met(c, f);
+    if number == Applied::DONE {
         return Answer::Changed(count);
     }
-    let refusal = requests::refusal(applied.refusal);
+    let refusal = requests::refusal(number);
     Answer::Refused(refusal)
 }
 

@@ -25,7 +25,8 @@ pub fn field(p: Plant, own: Changes, q: Place) -> Field
     ensures shows { λ r. ⌜ viewField r ≡ value (viewPlant p) (viewChanges own) (viewPlace q) ⌝ }
     ensures form { λ r. ⌜ (plantForm p ≡ true → fieldForm r ≡ true) ⌝ }
 {
-    if p.near {
+    let near = p.near;
+    if near {
         return reading::seen(p.store, p.rows, p.buffer, own, q);
     }
     reading::seen_away(p.keys, p.cache, p.buffer, own, q)

@@ -46,15 +46,15 @@ pub fn after(mut p: Plant, a: Answer) -> Plant
     ensures shows { λ r. ⌜ Leaves Begin p a r ⌝ }
     ensures form { λ r. ⌜ (plantForm p ≡ true → plantForm r ≡ true) ⌝ }
 {
-    let number = p.next;
+    let next = p.next;
     if a.is_refused() {
         return p;
     }
-    if LAST_SESSION < number {
+    if LAST_SESSION < next {
         return p;
     }
     let now = p.clock;
-    p.sessions = p.sessions.begun(number as u32, now);
-    p.next = number + 1;
+    p.sessions = p.sessions.begun(next as u32, now);
+    p.next = next + 1;
     p
 }

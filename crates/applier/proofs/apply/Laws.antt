@@ -191,7 +191,7 @@ module _ (p : Plant) (n : ℕ) (b : Bool) (eb : b ≡ has n (viewRows (p .rows))
       unfolding keptPlant viewPlant
       stored kept =
           let k = kept-iff (viewPlant p) .0 (and-true (plantForm p) _ kept .1) in
-          es ∙ rw ec (follow-within (batchOf n (viewBuffer (p .buffer))) (viewStore (p .store)) (view-ranged (p .store)) (ok-within _ (updates-ok (p .next) n (viewBuffer (p .buffer)) (k .buffer .ok))))
+          es ∙ rw ec (follow-within (batchOf n (viewBuffer (p .buffer))) (viewStore (p .store)) (view-ranged (p .store)) (ok-within (batchOf n (viewBuffer (p .buffer))) (updates-ok (p .next) n (viewBuffer (p .buffer)) (k .buffer .ok))))
 
       pub both-there : Carries (record { store = s; keys = p .keys; cache = p .cache; sessions = p .sessions; buffer = p .buffer; rows = r; hands = p .hands; queue = p .queue; clock = p .clock; near = p .near; next = p .next })
       unfolding viewPlant carried

@@ -34,7 +34,7 @@ changed-requires : tie.Need-changed-requires
 changed-requires c κs = search needs
 
 returns-4 : tie.Need-returns-4
-returns-4 c = search (changes, changes-form, needs)
+returns-4 c = (search (changes, needs), changes-form (c .before .before .before .before .before .before .before .before .before .args .p) (c .changed .result) (c .before .before .before .before .update .result) _ (c .before .before .before .before .update .ensures .0) (c .before .before .before .before .update .ensures .1 .1) (c .before .before .if3 .left) (c .changed .ensures .1))
 
 pub after-spec : {M : Type 1} → statement M
 after-spec =

@@ -4,8 +4,8 @@ use borrow.Author.Needs.{needs}
 use Rattle.change.proofs.met.Statement.{statement}
 use Rattle.change.proofs.met.Tie as tie
 
-changed-requires : tie.Need-changed-requires
-changed-requires c κs = search needs
+met-requires : tie.Need-met-requires
+met-requires c κs = search needs
 
 returns : tie.Need-returns
 returns c = search (meets-none, needs)
@@ -14,7 +14,7 @@ refusal-requires : tie.Need-refusal-requires
 refusal-requires c κs = search needs
 
 returns-2 : tie.Need-returns-2
-returns-2 c = search (meets-one, needs)
+returns-2 c = search (meets-one, c .before .if1 .left, needs)
 
 pub met-spec : {M : Type 1} → statement M
-met-spec = tie.close (tie.spec changed-requires returns refusal-requires returns-2)
+met-spec = tie.close (tie.spec met-requires returns refusal-requires returns-2)
