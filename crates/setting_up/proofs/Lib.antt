@@ -1,1 +1,2 @@
 -- Laws of the calls before the first session.
+mod PlacesLaws

@@ -1,0 +1,2 @@
+-- What the contracts of map cite.
+pub mod View
