@@ -1,2 +1,1 @@
 -- Laws of the calls before the first session.
-mod PlacesLaws

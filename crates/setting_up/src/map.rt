@@ -6,12 +6,12 @@ ghost use lib.IntN.{ℤ};
 ghost use Rattle.rules.specs.Calls.{Map};
 ghost use Rattle.plant.specs.View.{plantForm};
 ghost use Rattle.promises.specs.Promise.{Answers, Leaves};
-ghost use Rattle.setting_up.specs.View.{pairs};
-use crate::Places;
+ghost use Rattle.places.specs.View.{pairs};
 use answers::Answer;
 use answers::Refusal;
 use keys::Key;
 use keys::Keys;
+use places::Places;
 use plant::Plant;
 
 pub fn answer(

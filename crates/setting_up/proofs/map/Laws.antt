@@ -33,9 +33,9 @@ use Rattle.keys.specs.declared.Keys.{Keys}
 use Rattle.plant.specs.View.{viewPlant, keptPlant, plantForm}
 use Rattle.plant.specs.declared.Plant.{Plant}
 use Rattle.plant.proofs.Formed.{form-parts, formed}
-use Rattle.setting_up.specs.View.{pairs, viewPlaces, hasStray, keyOf}
-use Rattle.setting_up.specs.declared.Places.{Places}
-use Rattle.setting_up.proofs.PlacesLaws.{held-pairs}
+use Rattle.places.specs.View.{pairs, viewPlaces, hasStray, keyOf}
+use Rattle.places.specs.declared.Places.{Places}
+use Rattle.places.proofs.PlacesLaws.{held-pairs}
 
 -- ── refusal 14 ──
 abbrev isBad : ℤ → List S.Place → Bool

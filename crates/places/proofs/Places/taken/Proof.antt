@@ -1,8 +1,8 @@
 -- `Places::taken` meets its contract.
-use Rattle.setting_up.proofs.PlacesLaws.{taken-shown, taken-form}
+use Rattle.places.proofs.PlacesLaws.{taken-shown, taken-form}
 use borrow.Author.Needs.{needs}
-use Rattle.setting_up.proofs.Places.taken.Statement.{statement}
-use Rattle.setting_up.proofs.Places.taken.Tie as tie
+use Rattle.places.proofs.Places.taken.Statement.{statement}
+use Rattle.places.proofs.Places.taken.Tie as tie
 
 empty-requires : tie.Need-empty-requires
 empty-requires c κs = search needs

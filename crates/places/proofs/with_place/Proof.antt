@@ -1,8 +1,8 @@
 -- `with_place` meets its contract.
-use Rattle.setting_up.proofs.PlacesLaws.{placed, not-placed}
+use Rattle.places.proofs.PlacesLaws.{placed, not-placed}
 use borrow.Author.Needs.{needs}
-use Rattle.setting_up.proofs.with_place.Statement.{statement}
-use Rattle.setting_up.proofs.with_place.Tie as tie
+use Rattle.places.proofs.with_place.Statement.{statement}
+use Rattle.places.proofs.with_place.Tie as tie
 
 push-requires : tie.Need-push-requires
 push-requires c κs = search needs

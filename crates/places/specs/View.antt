@@ -12,7 +12,7 @@ use Rattle.rules.specs.Values.{twice}
 use Rattle.rules.specs.Calls.{Pairs}
 use Rattle.rules.specs.Conditions.{isZero}
 use Rattle.keys.specs.View.{viewPlace}
-use Rattle.setting_up.specs.declared.Places.{Places}
+use Rattle.places.specs.declared.Places.{Places}
 
 abbrev pub pairs : (d e f g h i j k : ℤ) → Pairs
 pairs d e f g h i j k =

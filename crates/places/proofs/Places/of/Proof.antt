@@ -1,8 +1,8 @@
 -- `Places::of` meets its contract.
-use Rattle.setting_up.proofs.PlacesLaws.{of-within, of-shown}
+use Rattle.places.proofs.PlacesLaws.{of-within, of-shown}
 use borrow.Author.Needs.{needs}
-use Rattle.setting_up.proofs.Places.of.Statement.{statement}
-use Rattle.setting_up.proofs.Places.of.Tie as tie
+use Rattle.places.proofs.Places.of.Statement.{statement}
+use Rattle.places.proofs.Places.of.Tie as tie
 
 place-requires : tie.Need-place-requires
 place-requires c κs = search needs

@@ -1,8 +1,8 @@
 -- `is_stray` meets its contract.
-use Rattle.setting_up.proofs.PlacesLaws.{in-use, not-in-use}
+use Rattle.places.proofs.PlacesLaws.{in-use, not-in-use}
 use borrow.Author.Needs.{needs}
-use Rattle.setting_up.proofs.is_stray.Statement.{statement}
-use Rattle.setting_up.proofs.is_stray.Tie as tie
+use Rattle.places.proofs.is_stray.Statement.{statement}
+use Rattle.places.proofs.is_stray.Tie as tie
 
 returns : tie.Need-returns
 returns c = search (in-use, needs)

@@ -1,8 +1,8 @@
 -- `Places::are_within` meets its contract.
-use Rattle.setting_up.proofs.PlacesLaws.{not-first, not-second, not-third, all-but}
+use Rattle.places.proofs.PlacesLaws.{not-first, not-second, not-third, all-but}
 use borrow.Author.Needs.{needs}
-use Rattle.setting_up.proofs.Places.are_within.Statement.{statement}
-use Rattle.setting_up.proofs.Places.are_within.Tie as tie
+use Rattle.places.proofs.Places.are_within.Statement.{statement}
+use Rattle.places.proofs.Places.are_within.Tie as tie
 
 is-within-requires : tie.Need-is-within-requires
 is-within-requires c κs = search needs

@@ -1,8 +1,8 @@
 -- `Places::has_stray` meets its contract.
-use Rattle.setting_up.proofs.PlacesLaws.{stray-first, stray-second, stray-third, stray-fourth}
+use Rattle.places.proofs.PlacesLaws.{stray-first, stray-second, stray-third, stray-fourth}
 use borrow.Author.Needs.{needs}
-use Rattle.setting_up.proofs.Places.has_stray.Statement.{statement}
-use Rattle.setting_up.proofs.Places.has_stray.Tie as tie
+use Rattle.places.proofs.Places.has_stray.Statement.{statement}
+use Rattle.places.proofs.Places.has_stray.Tie as tie
 
 is-stray-requires : tie.Need-is-stray-requires
 is-stray-requires c κs = search needs

@@ -24,8 +24,8 @@ use Rattle.keys.specs.View.{viewPlace, noPlace, viewKey}
 use Rattle.keys.specs.Form.{keyForm}
 use Rattle.keys.specs.declared.Place.{Place}
 use Rattle.keys.specs.declared.Key.{Key}
-use Rattle.setting_up.specs.View.{pairs, viewPlaces, hasStray, keyOf}
-use Rattle.setting_up.specs.declared.Places.{Places}
+use Rattle.places.specs.View.{pairs, viewPlaces, hasStray, keyOf}
+use Rattle.places.specs.declared.Places.{Places}
 
 itself : (b : Bool) → b ≡ cond b true false
 itself true = refl

@@ -1,8 +1,8 @@
 -- `Places::key` meets its contract.
-use Rattle.setting_up.proofs.PlacesLaws.{key-past, key-stray, key-twice, key-made}
+use Rattle.places.proofs.PlacesLaws.{key-past, key-stray, key-twice, key-made}
 use borrow.Author.Needs.{needs}
-use Rattle.setting_up.proofs.Places.key.Statement.{statement}
-use Rattle.setting_up.proofs.Places.key.Tie as tie
+use Rattle.places.proofs.Places.key.Statement.{statement}
+use Rattle.places.proofs.Places.key.Tie as tie
 
 empty-requires : tie.Need-empty-requires
 empty-requires c κs = search needs

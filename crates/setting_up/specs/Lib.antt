@@ -1,2 +1,0 @@
--- What the contracts of map cite.
-pub mod View
