@@ -1,0 +1,2 @@
+-- Laws of the places that a map names.
+pub mod PlacesLaws

@@ -1,0 +1,2 @@
+-- The places that a map names as the rules see them.
+pub mod View

@@ -1,0 +1,2 @@
+-- Laws of map.
+mod Laws
