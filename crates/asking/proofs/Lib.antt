@@ -1,0 +1,2 @@
+-- Laws of what is asked of a key's places.
+pub mod Walks

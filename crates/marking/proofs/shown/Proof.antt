@@ -1,0 +1,50 @@
+-- `shown` meets its contract.
+use borrow.Author.Needs.{needs}
+use Rattle.marking.proofs.MarkingLaws.{marks-own, shows-own, marks-cached, shows-cached, marks-now, shows-now}
+use Rattle.marking.proofs.shown.Statement.{statement}
+use Rattle.marking.proofs.shown.Tie as tie
+
+session-requires : tie.Need-session-requires
+session-requires c κs = search needs
+
+key-requires : tie.Need-key-requires
+key-requires c κs = search needs
+
+touched-requires : tie.Need-touched-requires
+touched-requires c κs = search needs
+
+worked-requires : tie.Need-worked-requires
+worked-requires c κs = search needs
+
+returns : tie.Need-returns
+returns c = search (marks-own, shows-own, needs)
+
+has-requires : tie.Need-has-requires
+has-requires c κs = search needs
+
+found-requires : tie.Need-found-requires
+found-requires c κs = search needs
+
+returns-2 : tie.Need-returns-2
+returns-2 c = search (marks-cached, shows-cached, needs)
+
+worked-requires-2 : tie.Need-worked-requires-2
+worked-requires-2 c κs = search needs
+
+returns-3 : tie.Need-returns-3
+returns-3 c = search (marks-now, shows-now, needs)
+
+pub shown-spec : {M : Type 1} → statement M
+shown-spec =
+    tie.close
+    (tie.spec
+    session-requires
+    key-requires
+    touched-requires
+    worked-requires
+    returns
+    has-requires
+    found-requires
+    returns-2
+    worked-requires-2
+    returns-3)

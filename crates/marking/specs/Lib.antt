@@ -1,0 +1,2 @@
+-- What a read shows and caches.
+pub mod Fields

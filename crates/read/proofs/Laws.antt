@@ -1,0 +1,147 @@
+-- What read answers, the words it fills and the plant it leaves, one law for each way out.
+use mathlib.Core.Path.{_≡_, refl, sym, _∙_, ap}
+use mathlib.Core.Bool.{Bool, true, false, cond, true≢false}
+use mathlib.Core.Option.{Option, none, some}
+use mathlib.Core.List.{List, [], _∷_, _++_, map}
+use Prim.Native.Nat.{ℕ, suc, _<_, _≤_, _*_}
+use lib.Dec.{ltb}
+use lib.IntN.{ℤ, pos}
+use lib.ListN.{length, drop, length-map}
+use mir.Syntax.{w64}
+use mir.Val.{SFits}
+use borrow.Author.Tests.{not-false, ltb-true, ltb-false, le-leb}
+use Rattle.rules.specs.Limits.{keyCount, lastSession, wordsPerField}
+use Rattle.rules.specs.Values.{below, natOf, showAll}
+use Rattle.rules.specs.Values as S
+use Rattle.rules.specs.Refusals.{Refusal, outOfRange, fewWords, storeAway, first}
+use Rattle.rules.specs.Tables as M
+use Rattle.rules.specs.Reading.{seen}
+use Rattle.rules.specs.Calls.{Call, Read, Pick, fine, markNumber}
+use Rattle.rules.specs.Calls as C
+use Rattle.rules.specs.Conditions.{conditions}
+use Rattle.rules.specs.Effects.{mark, withShared, onlyAt, afterRead}
+use Rattle.rules.specs.Step.{accepted, settle, step}
+use Rattle.rules.proofs.Laws.{NoneMet, none-met, not-met}
+use Rattle.rules.proofs.Steps.{step-fine}
+use Rattle.rules.proofs.Away.{key-places}
+use Rattle.arguments.proofs.Numbers.{held}
+use Rattle.keys.specs.View.{viewKey, viewKeys}
+use Rattle.keys.specs.declared.Key.{Key}
+use Rattle.session.specs.View.{within}
+use Rattle.session.proofs.SessionLaws.{within-all}
+use Rattle.sessions.specs.View.{viewSessions}
+use Rattle.sessions.specs.Form.{sessionsForm}
+use Rattle.sessions.specs.declared.Sessions.{Sessions}
+use Rattle.cached.specs.View.{viewCached}
+use Rattle.cached.specs.declared.Cached.{Cached}
+use Rattle.cache.specs.View.{viewCache}
+use Rattle.cache.specs.Form.{cacheForm}
+use Rattle.cache.specs.declared.Cache.{Cache}
+use Rattle.plant.specs.View.{viewPlant, keptPlant, plantForm}
+use Rattle.plant.specs.declared.Plant.{Plant}
+use Rattle.plant.proofs.PlantLaws.{kept-parts}
+use Rattle.plant.proofs.Formed.{form-parts, formed}
+use Rattle.answers.specs.View.{viewAnswer, viewMark, isRefused}
+use Rattle.answers.specs.declared.Answer.{Answer}
+use Rattle.answers.specs.declared.Mark.{Mark}
+use Rattle.promises.specs.Promise.{chosen, result, Answers, Leaves}
+use Rattle.promises.proofs.Telling.{none-held, left-accepted}
+use Rattle.showing.specs.Shown.{shownIn}
+use Rattle.turning.specs.Told.{told}
+use Rattle.marking.specs.Fields.{ownOf, shownFields, cacheNow}
+use Rattle.marking.proofs.Kept.{shown-is, cache-is}
+use Rattle.read.proofs.Named.{named}
+
+-- ── what a refusal, or none, says of the step ──
+told-refused : (o : Option Refusal) (c : Call) (lent : List ℤ) (pick : Pick) (p : M.Plant) → isRefused (told o) ≡ true → (told o ≡ settle o c lent pick p .answer) × (lent ≡ settle o c lent pick p .words)
+told-refused none c lent pick p h = absurd (true≢false (sym h))
+told-refused (some r) c lent pick p h = (refl, refl)
+
+told-none : (o : Option Refusal) → isRefused (told o) ≡ false → o ≡ none
+told-none none h = refl
+told-none (some r) h = absurd (true≢false h)
+
+-- ── what no refusal says of the numbers ──
+module _ (p : Plant) (h : keptPlant p ≡ true) (n k : ℕ) (lent : List ℤ) (m : NoneMet (conditions (Read (pos n) (pos k)) lent (viewPlant p))) where
+  in-range : k < keyCount
+  unfolding conditions
+  in-range = ltb-true k keyCount (not-false _ (not-met _ outOfRange (m .0)))
+
+  fields-are : shownFields n k (viewPlant p) ≡ map (seen (viewPlant p) (ownOf n (viewPlant p))) (viewPlant p .keys k)
+  unfolding conditions
+  fields-are = shown-is (viewPlant p) (kept-parts p h) n k in-range (not-met _ storeAway (m .1 .1 .1 .1 .1 .1 .0))
+
+  cache-are : cacheNow n k (viewPlant p) ≡ afterRead n k (chosen (viewPlant p)) (viewPlant p) .cache
+  unfolding conditions afterRead chosen
+  cache-are = cache-is (viewPlant p) (kept-parts p h) n k in-range (not-met _ storeAway (m .1 .1 .1 .1 .1 .1 .0)) (chosen (viewPlant p)) refl
+
+  words-are : (fs : List S.Field) → fs ≡ shownFields n k (viewPlant p) → shownIn fs lent ≡ accepted (Read (pos n) (pos k)) lent (chosen (viewPlant p)) (viewPlant p) .words
+  unfolding conditions accepted shownIn
+  words-are fs e =
+      let qs : List S.Place = viewPlant p .keys k in
+      let l : wordsPerField * length qs ≤ length lent = ltb-false (length lent) (wordsPerField * length qs) (not-met _ fewWords (m .1 .1 .1 .1 .0)) in
+      rw (e ∙ fields-are, length-map qs (seen (viewPlant p) (ownOf n (viewPlant p))), le-leb (wordsPerField * length qs) (length lent) l) refl
+
+-- ── the answer and the words ──
+module _ (p : Plant) (z : ℤ) (fz : SFits w64 z) (n : ℕ) (en : n ≡ cond (below (held z) (suc lastSession)) (natOf (held z)) 0)
+    (y : ℤ) (fy : SFits w64 y) (k : ℕ) (ek : k ≡ cond (below (held y) keyCount) (natOf (held y)) keyCount)
+    (lent : List ℤ) (a : Answer) (ea : (words : List ℤ) → length lent ≡ length words → viewAnswer a ≡ told (first (conditions (Read (pos n) (pos k)) words (viewPlant p))))
+    (r : Bool) (er : r ≡ isRefused (viewAnswer a)) where
+  is-told : isRefused (told (first (conditions (Read (pos n) (pos k)) lent (viewPlant p)))) ≡ r
+  is-told = ap isRefused (sym (ea lent refl)) ∙ sym er
+
+  module _ (t : r ≡ true) where
+    turned : (viewAnswer a ≡ result (Read (pos n) (pos k)) lent p .answer) × (lent ≡ result (Read (pos n) (pos k)) lent p .words)
+    unfolding step
+    turned =
+        let s = told-refused (first (conditions (Read (pos n) (pos k)) lent (viewPlant p))) (Read (pos n) (pos k)) lent (chosen (viewPlant p)) (viewPlant p) (is-told ∙ t) in
+        (ea lent refl ∙ s .0, s .1)
+
+    pub turned-away : Answers (Read z y) lent p a
+    turned-away h = turned .0 ∙ ap (λ (x : C.Result). x .answer) (sym (named p z fz n en y fy k ek h lent))
+
+    pub none-touched : keptPlant p ≡ true → lent ≡ result (Read z y) lent p .words
+    none-touched h = turned .1 ∙ ap (λ (x : C.Result). x .words) (sym (named p z fz n en y fy k ek h lent))
+
+  module _ (t : r ≡ false) where
+    none-meets : NoneMet (conditions (Read (pos n) (pos k)) lent (viewPlant p))
+    none-meets = none-met (conditions (Read (pos n) (pos k)) lent (viewPlant p)) (told-none (first (conditions (Read (pos n) (pos k)) lent (viewPlant p))) (is-told ∙ t))
+
+    reads : keptPlant p ≡ true → accepted (Read (pos n) (pos k)) lent (chosen (viewPlant p)) (viewPlant p) ≡ result (Read z y) lent p
+    reads h = sym (named p z fz n en y fy k ek h lent ∙ step-fine (Read (pos n) (pos k)) lent (chosen (viewPlant p)) (viewPlant p) none-meets)
+
+    pub marked : (m : Mark) → viewMark m ≡ mark n k (viewPlant p) → keptPlant p ≡ true → fine (markNumber (viewMark m) ∷ []) ≡ result (Read z y) lent p .answer
+    unfolding accepted
+    marked m e h = ap (λ (x : C.Mark). fine (markNumber x ∷ [])) e ∙ ap (λ (x : C.Result). x .answer) (reads h)
+
+    pub filled : (c : Cached) (ws : List ℤ) → viewCached c .fields ≡ shownFields n k (viewPlant p) → ws ≡ shownIn (viewCached c .fields) lent → keptPlant p ≡ true → ws ≡ result (Read z y) lent p .words
+    filled c ws e w h = w ∙ words-are p h n k lent none-meets (viewCached c .fields) e ∙ ap (λ (x : C.Result). x .words) (reads h)
+
+-- ── the plant left ──
+module _ (p : Plant) (z : ℤ) (fz : SFits w64 z) (y : ℤ) (fy : SFits w64 y) (a : Answer) (r : Bool) (er : r ≡ isRefused (viewAnswer a)) (t : r ≡ false)
+    (n : ℕ) (en : n ≡ cond (below (held z) (suc lastSession)) (natOf (held z)) 0) (k : ℕ) (ek : k ≡ cond (below (held y) keyCount) (natOf (held y)) keyCount)
+    (c : Cache) (ec : viewCache c ≡ cacheNow n k (viewPlant p)) (key : Key) (eq : viewKey key ≡ viewKeys (p .keys) k)
+    (s : Sessions) (es : viewSessions s ≡ M.each (onlyAt n (withShared (p .clock) (within (viewKey key)))) (viewSessions (p .sessions))) where
+  abbrev left : Plant
+  left = record { store = p .store; keys = p .keys; cache = c; sessions = s; buffer = p .buffer; rows = p .rows; hands = p .hands; queue = p .queue; clock = p .clock; near = p .near; next = p .next }
+
+  -- all documents of the key are among those that leases are held on
+  shared-is : keptPlant p ≡ true → k < keyCount → viewSessions s ≡ M.each (onlyAt n (withShared (p .clock) (viewKeys (p .keys) k))) (viewSessions (p .sessions))
+  unfolding viewPlant
+  shared-is h l =
+      es ∙ ap (λ (qs : List S.Place). M.each (onlyAt n (withShared (p .clock) qs)) (viewSessions (p .sessions)))
+      (ap within eq ∙ within-all (viewKeys (p .keys) k) (key-places (viewPlant p) k (kept-parts p h) l))
+
+  pub leaves : Leaves (Read z y) p a left
+  unfolding viewPlant accepted afterRead
+  leaves h lent ea =
+      let e = named p z fz n en y fy k ek h lent in
+      let m = none-held (Read (pos n) (pos k)) lent (chosen (viewPlant p)) (viewPlant p) (viewAnswer a) (ea ∙ ap (λ (x : C.Result). x .answer) e) (sym er ∙ t) in
+      rw (ec ∙ cache-are p h n k lent m, shared-is h (in-range p h n k lent m)) refl
+      ∙ left-accepted (Read (pos n) (pos k)) lent (chosen (viewPlant p)) (viewPlant p) m
+      ∙ ap (λ (x : C.Result). x .plant) (sym e)
+
+  pub leaves-form : (plantForm p ≡ true → cacheForm c ≡ true) → (sessionsForm (p .sessions) ≡ true → sessionsForm s ≡ true) → plantForm p ≡ true → plantForm left ≡ true
+  leaves-form fc fs f =
+      let x = form-parts p f in
+      formed _ (record { store = x .store; keys = x .keys; cache = fc f; sessions = fs (x .sessions); buffer = x .buffer; rows = x .rows; hands = x .hands; queue = x .queue })

@@ -1,0 +1,3 @@
+-- Laws of read.
+mod Named
+mod Laws

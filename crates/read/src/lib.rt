@@ -1,0 +1,43 @@
+// Read: the fields of a key's places go into the lent words, the session gets shared leases, and the key may be cached.
+ghost use mathlib.Core.Path.{_≡_};
+ghost use mathlib.Core.Bool.{true};
+ghost use Rattle.rules.specs.Calls.{Read};
+ghost use Rattle.plant.specs.View.{plantForm, keptPlant};
+ghost use Rattle.promises.specs.Promise.{result, Answers, Leaves};
+use answers::Answer;
+use keys::Keys;
+use plant::Plant;
+
+pub fn answer(p: Plant, session: i64, key: i64, words: &mut [i32]) -> Answer
+    ensures answers { λ r. ⌜ Answers (Read session key) (now (words .entry)) p r ⌝ }
+    ensures shows { λ r. ⌜ (keptPlant p ≡ true → now (words .exit) ≡ result (Read session key) (now (words .entry)) p .words) ⌝ }
+{
+    let n = arguments::session(session);
+    let k = arguments::index(key, Keys::LIMIT as u8);
+    let refusal = turning::refusal(p, n, k, words.len());
+    if refusal.is_refused() {
+        return refusal;
+    }
+    let s = marking::shown(p, n, k);
+    let mark = s.mark;
+    showing::write(s.fields, words);
+    Answer::Read(mark)
+}
+
+pub fn after(mut p: Plant, session: i64, key: i64, a: Answer) -> Plant
+    ensures shows { λ r. ⌜ Leaves (Read session key) p a r ⌝ }
+    ensures form { λ r. ⌜ (plantForm p ≡ true → plantForm r ≡ true) ⌝ }
+{
+    if a.ends_session() {
+        return ending::ended(p, session);
+    }
+    if a.is_refused() {
+        return p;
+    }
+    let n = arguments::session(session);
+    let k = arguments::index(key, Keys::LIMIT as u8);
+    let cache = marking::cached(p, n, k);
+    p.cache = cache;
+    p.sessions = p.sessions.shared(n, p.keys.key(k), p.clock);
+    p
+}

@@ -1,0 +1,2 @@
+-- Laws of what a read shows.
+pub mod ShowingLaws

@@ -1,0 +1,2 @@
+-- What a read shows.
+pub mod Shown

@@ -1,0 +1,2 @@
+-- Who is turned away, as an answer.
+pub mod Told
