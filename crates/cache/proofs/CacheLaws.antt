@@ -3,7 +3,7 @@ use Prim.Native.Nat.{ℕ, zero, suc, _+_, _-_, _<_, _≤_, min}
 use native.Mathlib.Omega.{arith}
 use mathlib.Core.Path.{_≡_, refl, sym, _∙_, ap}
 use mathlib.Core.Bool.{Bool, true, false, cond}
-use mathlib.Core.List.{List, [], _∷_, _++_, map}
+use mathlib.Core.List.{[], List, _∷_, _++_, map}
 use lib.ListN.{length, getD, set, take, replicate, length-map}
 use lib.Dec.{eqb}
 use Rattle.rules.specs.Lists.{any, dropAt}
@@ -29,7 +29,7 @@ use Rattle.cached.proofs.CachedLaws.{blank-cached}
 use Rattle.cache.specs.View.{viewCache}
 use Rattle.cache.specs.Form.{cacheForm}
 use Rattle.cache.specs.declared.Cache.{Cache}
-use Rattle.cache.proofs.Ends.{remake-here, remake-done}
+use Rattle.lists.proofs.Ends.{remake-here, remake-done}
 
 -- ── the table ──
 pub cache-empty : (c : Cached) → viewCached c ≡ noCached → cachedForm c ≡ true → cacheForm (record { count = 0; entries = replicate 16 c }) ≡ true

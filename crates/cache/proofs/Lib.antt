@@ -1,5 +1,4 @@
 -- Laws of the cached keys.
-pub mod Ends
 pub mod CacheLaws
 pub mod Current
 pub mod Unique

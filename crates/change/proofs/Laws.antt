@@ -11,10 +11,9 @@ use lib.ListN.{length}
 use mir.Syntax.{w64}
 use mir.Val.{SFits}
 use mir.Facts.{toZ-ofZ}
-use borrow.Author.Tests.{lt-ltb, le-leb, lt-leb, eq-eqb, ne-eqb, not-false}
+use borrow.Author.Tests.{lt-ltb, le-leb, lt-leb, eq-eqb, ne-eqb}
 use Rattle.rules.specs.Limits.{documentCount, fieldCount, lastSession, changeLimit}
-use Rattle.rules.specs.Values.{below, natOf, Place, inRange}
-use Rattle.rules.specs.Values as S
+use Rattle.rules.specs.Values.{below, natOf, inRange}
 use Rattle.rules.specs.Refusals.{Refusal, outOfRange, noSlot, wasDoomed, changesFull, exclusiveElsewhere, storeAway, _⇒_, first}
 use Rattle.rules.specs.Changes.{kindOf, isSet, meets, placeOf, updateOf}
 use Rattle.rules.specs.Changes as C

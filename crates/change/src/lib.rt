@@ -1,7 +1,7 @@
 // Change: a session changes a field, under an exclusive lease on its document.
 ghost use mathlib.Core.Path.{_≡_};
 ghost use mathlib.Core.Bool.{true, not, _&&_};
-ghost use mathlib.Core.List.{List, [], _∷_};
+ghost use mathlib.Core.List.{List};
 ghost use lib.IntN.{ℤ};
 ghost use Rattle.rules.specs.Changes.{isSet, kindOf, meets};
 ghost use Rattle.rules.specs.Calls.{Change};

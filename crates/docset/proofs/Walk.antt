@@ -1,16 +1,14 @@
 -- A loop over the documents of a set from the lowest up: it takes the lowest of what is left, works on it, and goes on without it.
 --     let mut rest = set; while rest != 0 { let d = lowest(rest); .. rest = without(rest, d); }
 -- Inside the loop d is a document (next-below), and fewer documents are left after a turn (rest-fewer).
--- A search (Looking) may leave the loop at a hit; a fold (Walking) goes through the set in rising order.
+-- A search (Looking) may leave the loop at a hit.
 use Prim.Native.Nat.{_+_, _<_, _^_, _≤_, suc, zero, ℕ}
-use native.Mathlib.Numerals.{add-one}
 use native.Mathlib.Omega.{arith}
 use mathlib.Core.Path.{_≡_, _∙_, ap, fun-ext, refl, sym}
-use mathlib.Core.Bool.{Bool, _&&_, cond, false, not, true, true≢false}
-use mathlib.Core.List.{List, [], _++_, _∷_, append-nil, map}
+use mathlib.Core.Bool.{Bool, _&&_, false, not, true, true≢false}
+use mathlib.Core.List.{[], List, _∷_}
 use lib.Dec.{lit<, ltb}
-use lib.ListN.{getD, length, length-set, set, take}
-use lib.Seq.{append-snoc, getD-set-other, set-getD, take-all, take-suc-set}
+use lib.ListN.{set}
 use borrow.Author.Tests.{ltb-false, ltb-true, ne-eqb, not-true}
 use Rattle.rules.specs.Lists.{any, from, keep, override, span}
 use Rattle.rules.specs.Limits.{documentCount}
@@ -18,7 +16,6 @@ use Rattle.rules.specs.Tables.{documents}
 use Rattle.rules.specs.Step.{count}
 use Rattle.rules.proofs.Laws.{byCase, self}
 use Rattle.rules.proofs.Tests.{all-upto, any-none}
-use Rattle.lists.specs.Find.{fold}
 use Rattle.docset.specs.Sets.{docs}
 use Rattle.docset.proofs.SetLaws.{docs-decide, docs-none, docs-past}
 
@@ -109,47 +106,3 @@ module _ {p : ℕ → Bool} {whole : Bool} {rest : ℕ} (inv : Looking p whole r
 
   pub look-end : rest ≡ 0 → false ≡ whole
   look-end z = sym (inv .left ∙ rw (none-kept z) refl)
-
--- ── a fold: f takes what the loop has and a document of the set ──
-pub record Walking {B : Type 0} (f : B → ℕ → B) (whole b : B) (rest : ℕ) : Type 0 where
-  pub fits : rest < 2 ^ 64
-  pub left : whole ≡ fold f b (keep (docs rest) documents)
-
-pub walk-start : {B : Type 0} {f : B → ℕ → B} {whole b : B} {set : ℕ} → set < 2 ^ 64 → whole ≡ fold f b (keep (docs set) documents) → Walking f whole b set
-walk-start h e = record { fits = h; left = e }
-
-module _ {B : Type 0} {f : B → ℕ → B} {whole b : B} {rest : ℕ} (inv : Walking f whole b rest) where
-  pub walk-next : {d : ℕ} (r : B) (s : ℕ) → (rest ≡ 0 → ⊥) → d ≡ from (docs rest) (λ a. a) documentCount documents → r ≡ f b d → s < 2 ^ 64 → docs s ≡ override (docs rest) d false → Walking f whole r s
-  unfolding fold
-  walk-next r s n e t h o = record { fits = h; left = inv .left ∙ rw (o, next-split (inv .fits) n e, t) refl }
-
-  pub walk-end : rest ≡ 0 → b ≡ whole
-  unfolding fold
-  walk-end z = sym (inv .left ∙ rw (none-kept z) refl)
-
--- ── a fold that stores v d at each document d of the set ──
-module _ {A : Type 0} (f : ℕ → Bool) (v : ℕ → A) (none : A) where
-  abbrev stored : List A → ℕ → A
-  stored xs d = cond (f d) (v d) (getD xs d none)
-
-  map-same : (g h : ℕ → A) (n k : ℕ) → ((e : ℕ) → n ≤ e → g e ≡ h e) → map g (span n k) ≡ map h (span n k)
-  map-same g h n zero q = refl
-  map-same g h n (suc k) q = rw (q n (omega arith), map-same g h (n + 1) k (λ e l. q e (omega arith)))
-
-  store-first : (xs : List A) (n : ℕ) (l : List ℕ) → fold (λ ys d. set ys d (v d)) xs (keep f (n ∷ l)) ≡ fold (λ ys d. set ys d (v d)) (set xs n (stored xs n)) (keep f l)
-  unfolding fold
-  store-first xs n l = byCase (f n) (λ t. rw t) (λ t. rw (t, set-getD xs n none))
-
-  store-from : (n k : ℕ) (xs : List A) → length xs ≡ n + k → fold (λ ys d. set ys d (v d)) xs (keep f (span n k)) ≡ take n xs ++ map (stored xs) (span n k)
-  unfolding fold
-  store-from n zero xs q = rw append-nil (sym (take-all n xs (omega arith)))
-  store-from n (suc k) xs q =
-      store-first xs n (span (n + 1) k)
-      ∙ store-from (n + 1) k (set xs n (stored xs n)) (length-set xs n (stored xs n) ∙ omega arith)
-      ∙ rw (add-one n, take-suc-set xs n (stored xs n) (omega arith), append-snoc)
-      (ap (λ l. take n xs ++ (stored xs n ∷ l))
-      (map-same (stored (set xs n (stored xs n))) (stored xs) (suc n) k (λ e l. rw (getD-set-other xs n e (stored xs n) none (λ z. omega arith)))))
-
-  pub store-each : (xs : List A) → length xs ≡ documentCount → map (λ d. cond (f d) (v d) (getD xs d none)) documents ≡ fold (λ ys d. set ys d (v d)) xs (keep f documents)
-  unfolding documents
-  store-each xs q = sym (store-from 0 64 xs q)

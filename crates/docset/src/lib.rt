@@ -1,7 +1,6 @@
 // Sets of documents, each a number whose binary digit d says whether document d is in the set.
 ghost use mathlib.Core.Path.{_≡_};
-ghost use mathlib.Core.Bool.{false, cond, _&&_, _||_};
-ghost use mathlib.Core.List.{map};
+ghost use mathlib.Core.Bool.{false, _&&_, _||_};
 ghost use lib.Dec.{leb, ltb};
 ghost use lib.ListN.{getD};
 ghost use Rattle.rules.specs.Lists.{any, from, override};
@@ -78,19 +77,4 @@ pub fn any_over(set: u64, ticks: [u64; DOCUMENTS as usize], limit: u64) -> bool
         rest = without(rest, d);
     }
     false
-}
-
-// The ticks, with 0 for each document of the set.
-pub fn cleared(set: u64, ticks: [u64; DOCUMENTS as usize]) -> [u64; DOCUMENTS as usize]
-    ensures { λ r. ⌜ r ≡ map (λ d. cond (docs set d) 0 (getD ticks d 0)) documents ⌝ }
-{
-    let mut left = ticks;
-    let mut rest = set;
-    while rest != 0 {
-        let d = lowest(rest);
-        let i = d as usize;
-        left[i] = 0;
-        rest = without(rest, d);
-    }
-    left
 }

@@ -1,5 +1,5 @@
 -- The session that a caller's number names, as the code looks it up.
-use mathlib.Core.Path.{_≡_, refl, sym, _∙_, ap}
+use mathlib.Core.Path.{_≡_, sym, _∙_, ap}
 use mathlib.Core.Bool.{Bool, true, false, not, cond}
 use Prim.Native.Nat.{ℕ, suc}
 use lib.IntN.{ℤ}

@@ -4,7 +4,7 @@ ghost use mathlib.Core.Bool.{true, cond};
 ghost use mathlib.Core.List.{_++_};
 ghost use Prim.Native.Nat.{_≤_, _<_};
 ghost use lib.Dec.{leb};
-ghost use lib.IntN.{ℤ, pos, _+ℤ_};
+ghost use lib.IntN.{pos, _+ℤ_};
 ghost use lib.ListN.{length, getD, drop};
 ghost use Rattle.rules.specs.Lists.{dropAt};
 ghost use Rattle.rules.specs.Limits.{memberLimit, wordsPerField};

@@ -2,18 +2,16 @@
 use Prim.Native.Nat.{ℕ, _+_, _<_, _≤_}
 use native.Mathlib.Omega.{arith}
 use mathlib.Core.Path.{_≡_, refl, sym, _∙_, ap, fun-ext}
-use mathlib.Core.Bool.{Bool, true, false, cond, _&&_, _||_}
-use mathlib.Core.Logic.{_⊎_, inl, inr}
-use mathlib.Core.List.{List, [], _∷_, map}
-use lib.ListN.{length, getD, set, drop, replicate, getD-replicate, List·getD-eq-default}
+use mathlib.Core.Bool.{Bool, true, false, cond, _||_}
+use mathlib.Core.Logic.{inl, inr}
+use mathlib.Core.List.{[], _∷_}
+use lib.ListN.{length, getD, set, drop, replicate}
 use lib.Dec.{eqb, ltb}
 use borrow.Author.Tests.{eq-eqb, ne-eqb, lt-ltb, le-ltb}
 use Rattle.rules.specs.Lists.{any, all, override}
 use Rattle.rules.specs.Limits.{keyCount}
 use Rattle.rules.specs.Values as S
-use Rattle.rules.proofs.Laws.{byCase, both}
 use Rattle.docset.specs.Sets.{docs}
-use Rattle.lists.specs.Table.{counted}
 use Rattle.lists.proofs.Views.{Seeking, counted-next, counted-gone, counted-at, counted-over}
 use Rattle.lists.proofs.Forms.{form-empty, array-empty, array-at, array-set}
 use Rattle.lists.proofs.Indexed.{at-index, past-index, set-index, copies-same}

@@ -1,13 +1,12 @@
 -- Two values in form that show the same are equal.
 use Prim.Native.Nat.{ℕ}
-use mathlib.Core.Path.{_≡_, refl, sym, _∙_, ap, subst}
-use mathlib.Core.Bool.{Bool, true, _&&_}
+use mathlib.Core.Path.{_≡_, sym, _∙_, ap}
+use mathlib.Core.Bool.{true}
 use mathlib.Core.List.{List, []}
 use lib.Dec.{eqb}
 use borrow.Author.Tests.{eqb-true}
 use Rattle.rules.specs.Values as S
 use Rattle.rules.proofs.Laws.{and-true}
-use Rattle.lists.specs.Table.{counted, tableForm}
 use Rattle.lists.proofs.Forms.{table-unique, array-same}
 use Rattle.keys.specs.View.{viewPlace, viewKey, viewKeys}
 use Rattle.keys.specs.Form.{isBlank, keyForm, keysForm}

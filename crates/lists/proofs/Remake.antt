@@ -1,16 +1,15 @@
 -- A loop that makes the entries in use anew and leaves the others: what it shows, and that the table stays in its form.
-use Prim.Native.Nat.{ℕ, zero, suc, _+_, _<_, _≤_}
+use Prim.Native.Nat.{ℕ, zero, suc, _<_, _≤_}
 use native.Mathlib.Omega.{arith}
-use mathlib.Core.Path.{_≡_, refl, sym, _∙_, ap}
+use mathlib.Core.Path.{_≡_, refl, _∙_, ap}
 use mathlib.Core.Bool.{Bool, true}
-use mathlib.Core.List.{List, [], _∷_, _++_, map}
+use mathlib.Core.List.{List, [], _∷_, map}
 use lib.ListN.{length, take, drop, set, length-set, length-take, length-map}
 use lib.Seq.{take-append-le, take-set-lt, drop-set-lt}
-use Rattle.rules.specs.Lists.{all}
 use Rattle.lists.specs.Table.{counted, tableForm}
 use Rattle.lists.proofs.Views.{Remaking, take-map}
 use Rattle.lists.proofs.Indexed.{all-set}
-use Rattle.lists.proofs.Forms.{Formed, form-parts, parts-form}
+use Rattle.lists.proofs.Forms.{form-parts, parts-form}
 
 take-less : {A : Type 0} (n j : ℕ) (xs : List A) → n ≤ j → take n (take j xs) ≡ take n xs
 take-less zero j xs h = refl

@@ -1,6 +1,6 @@
 -- The plant at set-up: each table empty is the plant of the rules' set-up, in form and kept.
-use mathlib.Core.Path.{_≡_, refl, sym, _∙_, ap}
-use mathlib.Core.Bool.{Bool, true, _&&_}
+use mathlib.Core.Path.{_≡_, _∙_, ap}
+use mathlib.Core.Bool.{true}
 use mathlib.Core.List.{[]}
 use Rattle.rules.specs.Values as S
 use Rattle.rules.specs.Tables as M

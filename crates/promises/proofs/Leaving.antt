@@ -1,5 +1,5 @@
 -- The plant that a refused call leaves: as it was, or without the caller's session.
-use mathlib.Core.Path.{_≡_, refl, sym, _∙_, ap}
+use mathlib.Core.Path.{_≡_, sym, _∙_, ap}
 use mathlib.Core.Bool.{Bool, true, false}
 use mathlib.Core.Option.{none, some}
 use lib.IntN.{ℤ}

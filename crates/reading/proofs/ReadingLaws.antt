@@ -1,7 +1,7 @@
 -- Reading through the tables' views: one law for each way out of a function.
 use Prim.Native.Nat.{ℕ}
 use mathlib.Core.Path.{_≡_, refl, _∙_, ap}
-use mathlib.Core.Bool.{Bool, true, false, _||_}
+use mathlib.Core.Bool.{Bool, true, false}
 use mathlib.Core.List.{List}
 use Rattle.rules.specs.Lists.{any}
 use Rattle.rules.specs.Values.{Place, Field, absent}

@@ -7,7 +7,6 @@ use mir.Syntax.{w64}
 use mir.Val.{SFits}
 use mir.Facts.{toZ-ofZ}
 use borrow.Author.Tests.{eq-eqb, ne-eqb}
-use Rattle.rules.specs.Values as S
 use Rattle.rules.specs.Values.{natOf}
 use Rattle.rules.specs.Changes as C
 use Rattle.rules.specs.Changes.{placeOf, updateOf}

@@ -1,11 +1,9 @@
 -- Two tables of rows in form that show the same are equal.
 use Prim.Native.Nat.{ℕ}
-use mathlib.Core.Path.{_≡_, refl, sym, _∙_, ap, subst}
-use mathlib.Core.Bool.{Bool, true}
-use mathlib.Core.List.{List}
+use mathlib.Core.Path.{_≡_, sym, _∙_}
+use mathlib.Core.Bool.{true}
 use lib.Dec.{eqb}
 use borrow.Author.Tests.{eqb-true}
-use Rattle.lists.specs.Table.{counted, tableForm}
 use Rattle.lists.proofs.Forms.{table-unique}
 use Rattle.rows.specs.View.{viewRows, rowsForm}
 use Rattle.rows.specs.declared.Rows.{Rows}

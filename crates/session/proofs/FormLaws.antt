@@ -18,7 +18,7 @@ use Rattle.changes.specs.declared.Changes.{Changes}
 use Rattle.changes.specs.View.{viewChanges}
 use Rattle.changes.specs.Form.{changesForm}
 use Rattle.session.specs.declared.Session.{Session}
-use Rattle.session.specs.View.{leases, ticks, viewSession, viewSlot}
+use Rattle.session.specs.View.{ticks, viewSession, viewSlot}
 use Rattle.session.specs.Form.{leaseForm, leasesForm, sessionForm, isBare, isUnused}
 use Rattle.session.proofs.SessionLaws.{not-held}
 

@@ -3,7 +3,7 @@ use Prim.Native.Nat.{ℕ, _+_, _-_, _<_, _≤_}
 use native.Mathlib.Omega.{arith}
 use mathlib.Core.Path.{_≡_, refl, sym, _∙_, ap, fun-ext}
 use mathlib.Core.Bool.{Bool, true, false, not, cond, _&&_, _||_, true≢false}
-use mathlib.Core.List.{List, [], _∷_}
+use mathlib.Core.List.{[], List, _∷_}
 use lib.Dec.{eqb, ltb}
 use lib.ListN.{length, set}
 use lib.Seq.{getD-set-same, getD-set-other}
@@ -112,14 +112,6 @@ slot-session s = refl
 pub session-of : (s : Session) (m : M.Slot) → viewSlot s ≡ m → viewSession s ≡ m .session
 unfolding viewSlot
 session-of s m e = ap (λ (x : M.Slot). x .session) e
-
-pub session-doomed : (s : Session) → s .doomed ≡ viewSession s .doomed
-unfolding viewSession
-session-doomed s = refl
-
-pub session-changes : (s : Session) → viewChanges (s .changes) ≡ viewSession s .changes
-unfolding viewSession
-session-changes s = refl
 
 pub remade-doomed : (s r : Session) → viewSlot r ≡ record { number = s .number; session = M.doomedSession } → viewSlot r ≡ M.remade (λ n t. M.doomedSession) (viewSlot s)
 unfolding viewSlot

@@ -1,7 +1,7 @@
 // A session with a slot: its leases as two sets of documents, the tick of each grant, and its changes.
 ghost use mathlib.Core.Path.{_≡_};
 ghost use mathlib.Core.Bool.{true, not, cond, _&&_};
-ghost use Prim.Native.Nat.{ℕ, _+_};
+ghost use Prim.Native.Nat.{_+_};
 ghost use lib.Dec.{eqb, leb, ltb};
 ghost use Rattle.rules.specs.Limits.{documentCount};
 ghost use Rattle.rules.specs.Lists.{any};

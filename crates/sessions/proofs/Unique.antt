@@ -1,9 +1,7 @@
 -- Two tables of sessions in form that show the same are equal.
-use Prim.Native.Nat.{ℕ}
-use mathlib.Core.Path.{_≡_, sym, _∙_, ap, subst}
+use mathlib.Core.Path.{_≡_}
 use mathlib.Core.Bool.{true, false}
 use mathlib.Core.List.{[]}
-use Rattle.lists.specs.Table.{counted, tableForm}
 use Rattle.lists.proofs.Forms.{table-unique}
 use Rattle.session.specs.declared.Session.{Session}
 use Rattle.session.specs.View.{viewSlot}

@@ -1,18 +1,17 @@
 -- Hands through their view: one law for each way out of a method.
-use Prim.Native.Nat.{ℕ, zero, suc, _+_, _<_, _≤_}
+use Prim.Native.Nat.{ℕ, _<_, _≤_}
 use native.Mathlib.Omega.{arith}
-use mathlib.Core.Path.{_≡_, refl, sym, _∙_, ap, fun-ext}
-use mathlib.Core.Bool.{Bool, true, false, not, cond, _&&_, _||_}
-use mathlib.Core.List.{List, [], _∷_, map}
-use lib.ListN.{length, getD, set, length-map, List·getD-map}
+use mathlib.Core.Path.{_≡_, sym, _∙_, ap, fun-ext}
+use mathlib.Core.Bool.{true, false, cond}
+use mathlib.Core.List.{[], _∷_, map}
+use lib.ListN.{length, getD, set, length-map}
 use lib.Seq.{take-all}
 use lib.Dec.{eqb, ltb}
 use borrow.Author.Tests.{lt-ltb, le-ltb}
 use Rattle.rules.specs.Limits.{workerCount}
-use Rattle.rules.specs.Lists.{any, all, from, override, span, upto}
+use Rattle.rules.specs.Lists.{any, all, override}
 use Rattle.rules.specs.Tables as M
-use Rattle.rules.proofs.Laws.{byCase, both, and-true}
-use Rattle.rules.proofs.Tests.{all-head, all-tail}
+use Rattle.rules.proofs.Laws.{byCase}
 use Rattle.lists.specs.Table.{counted}
 use Rattle.lists.proofs.Views.{Seeking}
 use Rattle.lists.proofs.Forms.{array-empty, array-at, array-set}

@@ -1,15 +1,14 @@
 -- The queue lease through its view: one law for each way out of a method.
 use Prim.Native.Nat.{ℕ, _+_, _-_, _<_, _≤_}
 use native.Mathlib.Omega.{arith}
-use mathlib.Core.Path.{_≡_, refl, sym, _∙_}
-use mathlib.Core.Bool.{Bool, true, false, not, cond, _&&_, _||_}
-use mathlib.Core.Option.{none, some}
+use mathlib.Core.Path.{_≡_, _∙_}
+use mathlib.Core.Bool.{Bool, true, false, not, _&&_}
 use lib.Dec.{eqb, leb}
 use borrow.Author.Tests.{le-leb, lt-leb}
 use Rattle.rules.specs.Limits.{leaseTicks}
 use Rattle.rules.specs.Tables as M
 use Rattle.rules.specs.Effects.{lapsedQueue, ended, orphaned}
-use Rattle.rules.proofs.Laws.{byCase, and-true, both}
+use Rattle.rules.proofs.Laws.{byCase, and-true}
 use Rattle.workers.specs.View.{ownerOf, viewQueue}
 use Rattle.workers.specs.Form.{queueForm}
 use Rattle.workers.specs.declared.Queue.{Queue}

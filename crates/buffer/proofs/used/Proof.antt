@@ -2,8 +2,6 @@
 use borrow.Author.Needs.{needs}
 use Rattle.buffer.proofs.used.Statement.{statement}
 use Rattle.buffer.proofs.used.Tie as tie
-use Rattle.buffer.proofs.used.Reads as reads
-use Rattle.buffer.proofs.used.Lts as lts
 
 returns : tie.Need-returns
 returns c = search needs

@@ -3,10 +3,6 @@ use borrow.Author.Needs.{needs}
 use Rattle.reading.proofs.ReadingLaws.{run-from}
 use Rattle.reading.proofs.current.Statement.{statement}
 use Rattle.reading.proofs.current.Tie as tie
-use Rattle.reading.proofs.current.Reads as reads
-use Rattle.reading.proofs.current.Lts as lts
-use Rattle.buffer.proofs.Buffer.carried.Reads as carried-reads
-use Rattle.store.proofs.Store.field.Reads as field-reads
 
 field-requires : tie.Need-field-requires
 field-requires c κs = search needs

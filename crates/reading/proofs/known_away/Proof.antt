@@ -3,11 +3,6 @@ use borrow.Author.Needs.{needs}
 use Rattle.reading.proofs.ReadingLaws.{known-cached, known-buffered, known-own}
 use Rattle.reading.proofs.known_away.Statement.{statement}
 use Rattle.reading.proofs.known_away.Tie as tie
-use Rattle.reading.proofs.known_away.Reads as reads
-use Rattle.reading.proofs.known_away.Lts as lts
-use Rattle.buffer.proofs.Buffer.sets.Reads as Buffer-sets-reads
-use Rattle.cache.proofs.Cache.shows.Reads as shows-reads
-use Rattle.changes.proofs.Changes.sets.Reads as Changes-sets-reads
 
 shows-requires : tie.Need-shows-requires
 shows-requires c κs = search needs

@@ -3,10 +3,6 @@ use borrow.Author.Needs.{needs}
 use Rattle.reading.proofs.ReadingLaws.{run-from}
 use Rattle.reading.proofs.seen.Statement.{statement}
 use Rattle.reading.proofs.seen.Tie as tie
-use Rattle.reading.proofs.seen.Reads as reads
-use Rattle.reading.proofs.seen.Lts as lts
-use Rattle.changes.proofs.Changes.run.Reads as run-reads
-use Rattle.reading.proofs.current.Reads as current-reads
 
 current-requires : tie.Need-current-requires
 current-requires c κs = search needs

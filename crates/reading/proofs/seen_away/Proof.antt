@@ -3,12 +3,6 @@ use borrow.Author.Needs.{needs}
 use Rattle.reading.proofs.ReadingLaws.{seen-own, seen-shown}
 use Rattle.reading.proofs.seen_away.Statement.{statement}
 use Rattle.reading.proofs.seen_away.Tie as tie
-use Rattle.reading.proofs.seen_away.Reads as reads
-use Rattle.reading.proofs.seen_away.Lts as lts
-use Rattle.changes.proofs.Changes.run.Reads as run-reads
-use Rattle.changes.proofs.Changes.sets.Reads as sets-reads
-use Rattle.field.proofs.Field.empty.Reads as empty-reads
-use Rattle.reading.proofs.shown_away.Reads as shown-away-reads
 
 sets-requires : tie.Need-sets-requires
 sets-requires c κs = search needs

@@ -3,12 +3,6 @@ use borrow.Author.Needs.{needs}
 use Rattle.reading.proofs.ReadingLaws.{shown-buffered, shown-cached}
 use Rattle.reading.proofs.shown_away.Statement.{statement}
 use Rattle.reading.proofs.shown_away.Tie as tie
-use Rattle.reading.proofs.shown_away.Reads as reads
-use Rattle.reading.proofs.shown_away.Lts as lts
-use Rattle.buffer.proofs.Buffer.run.Reads as run-reads
-use Rattle.buffer.proofs.Buffer.sets.Reads as sets-reads
-use Rattle.cache.proofs.Cache.field.Reads as field-reads
-use Rattle.field.proofs.Field.empty.Reads as empty-reads
 
 sets-requires : tie.Need-sets-requires
 sets-requires c κs = search needs

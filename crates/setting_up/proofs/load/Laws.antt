@@ -9,10 +9,8 @@ use mir.Syntax.{w64}
 use mir.Val.{SFits}
 use borrow.Author.Tests.{lt-ltb, le-ltb, not-true, not-false}
 use Rattle.rules.specs.Limits.{documentCount, fieldCount, firstSession}
-use Rattle.rules.specs.Values as S
 use Rattle.rules.specs.Values.{natOf, inRange}
 use Rattle.rules.specs.Refusals.{outOfRange, sessionBegun, storeAway, _⇒_}
-use Rattle.rules.specs.Refusals as R
 use Rattle.rules.specs.Changes as U
 use Rattle.rules.specs.Changes.{placeOf, updateOf, meets, follow}
 use Rattle.rules.specs.Calls as C

@@ -3,10 +3,6 @@ use Rattle.batch.proofs.BatchLaws.{carried-row, carried-now}
 use borrow.Author.Needs.{needs}
 use Rattle.batch.proofs.Batch.carried.Statement.{statement}
 use Rattle.batch.proofs.Batch.carried.Tie as tie
-use Rattle.batch.proofs.Batch.carried.Reads as reads
-use Rattle.batch.proofs.Batch.carried.Lts as lts
-use Rattle.changes.proofs.Changes.run.Reads as run-reads
-use Rattle.rows.proofs.Rows.has.Reads as has-reads
 
 has-requires : tie.Need-has-requires
 has-requires c κs = search needs

@@ -3,9 +3,6 @@ use Rattle.batch.proofs.BatchLaws.{unused-is}
 use borrow.Author.Needs.{needs}
 use Rattle.batch.proofs.Batch.empty.Statement.{statement}
 use Rattle.batch.proofs.Batch.empty.Tie as tie
-use Rattle.batch.proofs.Batch.empty.Reads as reads
-use Rattle.batch.proofs.Batch.empty.Lts as lts
-use Rattle.changes.proofs.Changes.empty.Reads as empty-reads
 
 empty-requires : tie.Need-empty-requires
 empty-requires c κs = search needs

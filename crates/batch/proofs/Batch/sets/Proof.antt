@@ -3,9 +3,6 @@ use Rattle.batch.specs.View.{viewBatch}
 use borrow.Author.Needs.{needs}
 use Rattle.batch.proofs.Batch.sets.Statement.{statement}
 use Rattle.batch.proofs.Batch.sets.Tie as tie
-use Rattle.batch.proofs.Batch.sets.Reads as reads
-use Rattle.batch.proofs.Batch.sets.Lts as lts
-use Rattle.changes.proofs.Changes.sets.Reads as sets-reads
 
 sets-requires : tie.Need-sets-requires
 sets-requires c κs = search needs

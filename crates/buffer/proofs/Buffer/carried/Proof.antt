@@ -15,10 +15,6 @@ use Rattle.buffer.specs.View.{viewBuffer}
 use Rattle.buffer.proofs.BufferLaws.{within, carry-used}
 use Rattle.buffer.proofs.Buffer.carried.Statement.{statement}
 use Rattle.buffer.proofs.Buffer.carried.Tie as tie
-use Rattle.buffer.proofs.Buffer.carried.Reads as reads
-use Rattle.buffer.proofs.Buffer.carried.Lts as lts
-use Rattle.batch.proofs.Batch.carried.Reads as carried-reads
-use Rattle.buffer.proofs.used.Reads as used-reads
 
 abbrev Inv-loop : tie.InvT-loop
 Inv-loop rows q self count now₀ i₀ now i =

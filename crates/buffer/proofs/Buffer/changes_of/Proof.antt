@@ -12,10 +12,6 @@ use Rattle.batch.specs.Form.{batchForm}
 use Rattle.buffer.proofs.BufferLaws.{within, seek-used, number-hit, number-next, batch-form}
 use Rattle.buffer.proofs.Buffer.changes_of.Statement.{statement}
 use Rattle.buffer.proofs.Buffer.changes_of.Tie as tie
-use Rattle.buffer.proofs.Buffer.changes_of.Reads as reads
-use Rattle.buffer.proofs.Buffer.changes_of.Lts as lts
-use Rattle.buffer.proofs.used.Reads as used-reads
-use Rattle.changes.proofs.Changes.empty.Reads as empty-reads
 
 abbrev Inv-loop : tie.InvT-loop
 Inv-loop n self count i₀ i = Seeking viewBatch (λ b. eqb n (b .number)) (λ b. b .changes) [] count 32 (self .batches) (M.batchOf n (viewBuffer self)) i

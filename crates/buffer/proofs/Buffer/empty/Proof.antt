@@ -6,9 +6,6 @@ use Rattle.buffer.proofs.BufferLaws.{empty-form}
 use borrow.Author.Needs.{needs}
 use Rattle.buffer.proofs.Buffer.empty.Statement.{statement}
 use Rattle.buffer.proofs.Buffer.empty.Tie as tie
-use Rattle.buffer.proofs.Buffer.empty.Reads as reads
-use Rattle.buffer.proofs.Buffer.empty.Lts as lts
-use Rattle.batch.proofs.Batch.empty.Reads as empty-reads
 
 empty-requires : tie.Need-empty-requires
 empty-requires c κs = search needs

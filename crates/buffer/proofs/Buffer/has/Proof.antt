@@ -11,9 +11,6 @@ use Rattle.buffer.specs.View.{viewBuffer}
 use Rattle.buffer.proofs.BufferLaws.{within, seek-used, number-hit, number-next}
 use Rattle.buffer.proofs.Buffer.has.Statement.{statement}
 use Rattle.buffer.proofs.Buffer.has.Tie as tie
-use Rattle.buffer.proofs.Buffer.has.Reads as reads
-use Rattle.buffer.proofs.Buffer.has.Lts as lts
-use Rattle.buffer.proofs.used.Reads as used-reads
 
 abbrev Inv-loop : tie.InvT-loop
 Inv-loop n self count i₀ i = Seeking viewBatch (λ b. eqb n (b .number)) (λ b. true) false count 32 (self .batches) (M.isBuffered n (viewBuffer self)) i

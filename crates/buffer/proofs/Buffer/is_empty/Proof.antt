@@ -5,8 +5,6 @@ use Rattle.lists.proofs.Views.{counted-empty}
 use Rattle.buffer.specs.View.{viewBuffer}
 use Rattle.buffer.proofs.Buffer.is_empty.Statement.{statement}
 use Rattle.buffer.proofs.Buffer.is_empty.Tie as tie
-use Rattle.buffer.proofs.Buffer.is_empty.Reads as reads
-use Rattle.buffer.proofs.Buffer.is_empty.Lts as lts
 
 returns : tie.Need-returns
 unfolding viewBuffer

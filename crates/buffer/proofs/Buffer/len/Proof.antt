@@ -4,9 +4,6 @@ use Rattle.lists.proofs.Loops.{length-mapped}
 use Rattle.buffer.proofs.BufferLaws.{used-length}
 use Rattle.buffer.proofs.Buffer.len.Statement.{statement}
 use Rattle.buffer.proofs.Buffer.len.Tie as tie
-use Rattle.buffer.proofs.Buffer.len.Reads as reads
-use Rattle.buffer.proofs.Buffer.len.Lts as lts
-use Rattle.buffer.proofs.used.Reads as used-reads
 
 used-requires : tie.Need-used-requires
 used-requires c κs = search needs

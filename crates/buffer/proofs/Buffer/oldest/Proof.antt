@@ -4,8 +4,6 @@ use Rattle.lists.proofs.Loops.{length-mapped}
 use Rattle.buffer.proofs.BufferLaws.{oldest-none, oldest-is}
 use Rattle.buffer.proofs.Buffer.oldest.Statement.{statement}
 use Rattle.buffer.proofs.Buffer.oldest.Tie as tie
-use Rattle.buffer.proofs.Buffer.oldest.Reads as reads
-use Rattle.buffer.proofs.Buffer.oldest.Lts as lts
 
 returns : tie.Need-returns
 returns c = search (oldest-none, needs)

@@ -7,8 +7,6 @@ use Rattle.buffer.specs.Form.{bufferForm}
 use borrow.Author.Needs.{needs}
 use Rattle.buffer.proofs.Buffer.push.Statement.{statement}
 use Rattle.buffer.proofs.Buffer.push.Tie as tie
-use Rattle.buffer.proofs.Buffer.push.Reads as reads
-use Rattle.buffer.proofs.Buffer.push.Lts as lts
 
 cast-at : tie.Need-cast-at
 cast-at c = search needs

@@ -6,9 +6,6 @@ use Rattle.batch.specs.View.{viewBatch}
 use Rattle.lists.proofs.Views.{unless-picked, unless-kept}
 use Rattle.buffer.proofs.Buffer.push_unless.Statement.{statement}
 use Rattle.buffer.proofs.Buffer.push_unless.Tie as tie
-use Rattle.buffer.proofs.Buffer.push_unless.Reads as reads
-use Rattle.buffer.proofs.Buffer.push_unless.Lts as lts
-use Rattle.buffer.proofs.Buffer.push.Reads as push-reads
 
 returns : tie.Need-returns
 unfolding viewBatch

@@ -3,10 +3,6 @@ use borrow.Author.Needs.{needs}
 use Rattle.buffer.proofs.BufferLaws.{run-none}
 use Rattle.buffer.proofs.Buffer.run.Statement.{statement}
 use Rattle.buffer.proofs.Buffer.run.Tie as tie
-use Rattle.buffer.proofs.Buffer.run.Reads as reads
-use Rattle.buffer.proofs.Buffer.run.Lts as lts
-use Rattle.buffer.proofs.Buffer.carried.Reads as carried-reads
-use Rattle.rows.proofs.Rows.empty.Reads as empty-reads
 
 empty-requires : tie.Need-empty-requires
 empty-requires c κs = search needs

@@ -12,10 +12,6 @@ use Rattle.buffer.specs.View.{viewBuffer}
 use Rattle.buffer.proofs.BufferLaws.{within, sets-used}
 use Rattle.buffer.proofs.Buffer.sets.Statement.{statement}
 use Rattle.buffer.proofs.Buffer.sets.Tie as tie
-use Rattle.buffer.proofs.Buffer.sets.Reads as reads
-use Rattle.buffer.proofs.Buffer.sets.Lts as lts
-use Rattle.batch.proofs.Batch.sets.Reads as sets-reads
-use Rattle.buffer.proofs.used.Reads as used-reads
 
 abbrev Inv-loop : tie.InvT-loop
 Inv-loop q self count i₀ i = Seeking viewBatch (λ b. C.setsIt (b .changes) (viewPlace q)) (λ b. true) false count 32 (self .batches) (C.setsIt (M.changesIn (viewBuffer self)) (viewPlace q)) i

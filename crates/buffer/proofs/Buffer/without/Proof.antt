@@ -13,11 +13,6 @@ use Rattle.buffer.specs.Form.{bufferForm}
 use Rattle.buffer.proofs.BufferLaws.{within, keep-used, batch-form}
 use Rattle.buffer.proofs.Buffer.without.Statement.{statement}
 use Rattle.buffer.proofs.Buffer.without.Tie as tie
-use Rattle.buffer.proofs.Buffer.without.Reads as reads
-use Rattle.buffer.proofs.Buffer.without.Lts as lts
-use Rattle.buffer.proofs.Buffer.empty.Reads as empty-reads
-use Rattle.buffer.proofs.Buffer.push_unless.Reads as push-unless-reads
-use Rattle.buffer.proofs.used.Reads as used-reads
 
 abbrev Inv-loop : tie.InvT-loop
 Inv-loop n self count kept₀ i₀ kept i =

@@ -6,9 +6,6 @@ use Rattle.cache.proofs.CacheLaws.{cache-empty}
 use borrow.Author.Needs.{needs}
 use Rattle.cache.proofs.Cache.empty.Statement.{statement}
 use Rattle.cache.proofs.Cache.empty.Tie as tie
-use Rattle.cache.proofs.Cache.empty.Reads as reads
-use Rattle.cache.proofs.Cache.empty.Lts as lts
-use Rattle.cached.proofs.Cached.of.Reads as of-reads
 
 of-requires : tie.Need-of-requires
 of-requires c κs = search needs

@@ -11,12 +11,6 @@ use Rattle.cache.specs.View.{viewCache}
 use Rattle.cache.proofs.CacheLaws.{shows-is, field-of, entry-form}
 use Rattle.cache.proofs.Cache.field.Statement.{statement}
 use Rattle.cache.proofs.Cache.field.Tie as tie
-use Rattle.cache.proofs.Cache.field.Reads as reads
-use Rattle.cache.proofs.Cache.field.Lts as lts
-use Rattle.cached.proofs.Cached.field.Reads as field-reads
-use Rattle.field.proofs.Field.empty.Reads as empty-reads
-use Rattle.keys.proofs.Key.has.Reads as has-reads
-use Rattle.keys.proofs.Keys.key.Reads as key-reads
 
 abbrev Inv-loop : tie.InvT-loop
 Inv-loop keys q self i₀ i =

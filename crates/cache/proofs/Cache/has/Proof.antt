@@ -13,8 +13,6 @@ use Rattle.cache.specs.View.{viewCache}
 use Rattle.cache.proofs.CacheLaws.{key-is}
 use Rattle.cache.proofs.Cache.has.Statement.{statement}
 use Rattle.cache.proofs.Cache.has.Tie as tie
-use Rattle.cache.proofs.Cache.has.Reads as reads
-use Rattle.cache.proofs.Cache.has.Lts as lts
 
 abbrev Inv-loop : tie.InvT-loop
 Inv-loop k self i₀ i = Seeking viewCached (λ c. eqb k (c .key)) (λ c. true) false (self .count) 16 (self .entries) (M.isCached k (viewCache self)) i

@@ -5,8 +5,6 @@ use Rattle.cache.specs.View.{viewCache}
 use borrow.Author.Needs.{needs}
 use Rattle.cache.proofs.Cache.len.Statement.{statement}
 use Rattle.cache.proofs.Cache.len.Tie as tie
-use Rattle.cache.proofs.Cache.len.Reads as reads
-use Rattle.cache.proofs.Cache.len.Lts as lts
 
 cast-if1 : tie.Need-cast-if1
 cast-if1 c = search needs

@@ -7,8 +7,6 @@ use Rattle.cache.specs.Form.{cacheForm}
 use borrow.Author.Needs.{needs}
 use Rattle.cache.proofs.Cache.push.Statement.{statement}
 use Rattle.cache.proofs.Cache.push.Tie as tie
-use Rattle.cache.proofs.Cache.push.Reads as reads
-use Rattle.cache.proofs.Cache.push.Lts as lts
 
 cast-at : tie.Need-cast-at
 cast-at c = search needs

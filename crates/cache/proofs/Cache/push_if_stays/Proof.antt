@@ -3,11 +3,6 @@ use Rattle.cache.proofs.CacheLaws.{leaves, remains}
 use borrow.Author.Needs.{needs}
 use Rattle.cache.proofs.Cache.push_if_stays.Statement.{statement}
 use Rattle.cache.proofs.Cache.push_if_stays.Tie as tie
-use Rattle.cache.proofs.Cache.push_if_stays.Reads as reads
-use Rattle.cache.proofs.Cache.push_if_stays.Lts as lts
-use Rattle.cache.proofs.Cache.push.Reads as push-reads
-use Rattle.keys.proofs.Key.in_documents.Reads as in-documents-reads
-use Rattle.keys.proofs.Keys.key.Reads as key-reads
 
 key-requires : tie.Need-key-requires
 key-requires c κs = search needs

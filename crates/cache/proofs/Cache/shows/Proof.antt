@@ -13,10 +13,6 @@ use Rattle.cache.specs.View.{viewCache}
 use Rattle.cache.proofs.CacheLaws.{shows-is}
 use Rattle.cache.proofs.Cache.shows.Statement.{statement}
 use Rattle.cache.proofs.Cache.shows.Tie as tie
-use Rattle.cache.proofs.Cache.shows.Reads as reads
-use Rattle.cache.proofs.Cache.shows.Lts as lts
-use Rattle.keys.proofs.Key.has.Reads as has-reads
-use Rattle.keys.proofs.Keys.key.Reads as key-reads
 
 abbrev Inv-loop : tie.InvT-loop
 Inv-loop keys q self i₀ i = Seeking viewCached (D.showsIt (viewKeys keys) (viewPlace q)) (λ c. true) false (self .count) 16 (self .entries) (any (D.showsIt (viewKeys keys) (viewPlace q)) (viewCache self)) i

@@ -7,10 +7,6 @@ use Rattle.lists.proofs.Loops.{length-mapped}
 use Rattle.cache.proofs.CacheLaws.{Dating, date-start, date-next, date-end}
 use Rattle.cache.proofs.Cache.up_to_date.Statement.{statement}
 use Rattle.cache.proofs.Cache.up_to_date.Tie as tie
-use Rattle.cache.proofs.Cache.up_to_date.Reads as reads
-use Rattle.cache.proofs.Cache.up_to_date.Lts as lts
-use Rattle.cache.proofs.Cache.len.Reads as len-reads
-use Rattle.cached.proofs.Cached.up_to_date.Reads as up-to-date-reads
 
 abbrev Inv-loop : tie.InvT-loop
 Inv-loop keys cs n t₀ i₀ t i = Dating (viewChanges cs) (viewKeys keys) t₀ t n i

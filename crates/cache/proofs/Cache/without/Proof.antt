@@ -15,10 +15,6 @@ use Rattle.cache.specs.Form.{cacheForm}
 use Rattle.cache.proofs.CacheLaws.{entry-form}
 use Rattle.cache.proofs.Cache.without.Statement.{statement}
 use Rattle.cache.proofs.Cache.without.Tie as tie
-use Rattle.cache.proofs.Cache.without.Reads as reads
-use Rattle.cache.proofs.Cache.without.Lts as lts
-use Rattle.cache.proofs.Cache.empty.Reads as empty-reads
-use Rattle.cache.proofs.Cache.push_if_stays.Reads as push-if-stays-reads
 
 abbrev Inv-loop : tie.InvT-loop
 Inv-loop keys set self kept₀ i₀ kept i =

@@ -2,14 +2,10 @@
 use borrow.Author.Needs.{needs}
 use Prim.Native.Nat.{_-_}
 use Rattle.lists.proofs.Loops.{length-mapped, Removing, remove-start}
-use Rattle.cache.proofs.Ends.{remove-here}
+use Rattle.lists.proofs.Ends.{remove-here}
 use Rattle.cache.proofs.CacheLaws.{first-none, first-gone, first-form}
 use Rattle.cache.proofs.Cache.without_first.Statement.{statement}
 use Rattle.cache.proofs.Cache.without_first.Tie as tie
-use Rattle.cache.proofs.Cache.without_first.Reads as reads
-use Rattle.cache.proofs.Cache.without_first.Lts as lts
-use Rattle.cache.proofs.Cache.len.Reads as len-reads
-use Rattle.cached.proofs.Cached.of.Reads as of-reads
 
 abbrev Inv-loop : tie.InvT-loop
 Inv-loop n none t₀ j₀ t j = Removing none 0 (t₀ .entries) 16 (t .entries) j

@@ -17,12 +17,6 @@ use Rattle.cached.specs.Form.{cachedForm}
 use Rattle.cached.proofs.CachedLaws.{after-is, pushed-key, pushed-fields, field-form}
 use Rattle.cached.proofs.Cached.after.Statement.{statement}
 use Rattle.cached.proofs.Cached.after.Tie as tie
-use Rattle.cached.proofs.Cached.after.Reads as reads
-use Rattle.cached.proofs.Cached.after.Lts as lts
-use Rattle.cached.proofs.Cached.of.Reads as of-reads
-use Rattle.cached.proofs.Cached.push.Reads as push-reads
-use Rattle.changes.proofs.Changes.run.Reads as run-reads
-use Rattle.keys.proofs.Key.place.Reads as place-reads
 
 abbrev Inv-loop : tie.InvT-loop
 Inv-loop key cs self t₀ i₀ t i =

@@ -5,10 +5,6 @@ use Rattle.lists.proofs.Loops.{length-mapped}
 use Rattle.cached.proofs.CachedLaws.{Reading, read-start, read-hit, read-next, read-no-place, read-no-field, read-past, field-form}
 use Rattle.cached.proofs.Cached.field.Statement.{statement}
 use Rattle.cached.proofs.Cached.field.Tie as tie
-use Rattle.cached.proofs.Cached.field.Reads as reads
-use Rattle.cached.proofs.Cached.field.Lts as lts
-use Rattle.field.proofs.Field.empty.Reads as empty-reads
-use Rattle.keys.proofs.Place.is.Reads as is-reads
 
 abbrev Inv-loop : tie.InvT-loop
 Inv-loop q self key i₀ i = Reading self key q i

@@ -6,9 +6,6 @@ use Rattle.cached.proofs.CachedLaws.{of-form}
 use borrow.Author.Needs.{needs}
 use Rattle.cached.proofs.Cached.of.Statement.{statement}
 use Rattle.cached.proofs.Cached.of.Tie as tie
-use Rattle.cached.proofs.Cached.of.Reads as reads
-use Rattle.cached.proofs.Cached.of.Lts as lts
-use Rattle.field.proofs.Field.empty.Reads as empty-reads
 
 empty-requires : tie.Need-empty-requires
 empty-requires c κs = search needs

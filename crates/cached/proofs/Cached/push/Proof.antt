@@ -4,8 +4,6 @@ use Rattle.cached.proofs.CachedLaws.{field-room, field-full, field-push
 use borrow.Author.Needs.{needs}
 use Rattle.cached.proofs.Cached.push.Statement.{statement}
 use Rattle.cached.proofs.Cached.push.Tie as tie
-use Rattle.cached.proofs.Cached.push.Reads as reads
-use Rattle.cached.proofs.Cached.push.Lts as lts
 
 cast-at : tie.Need-cast-at
 cast-at c = search needs

@@ -3,10 +3,6 @@ use Rattle.cached.proofs.CachedLaws.{dated-is}
 use borrow.Author.Needs.{needs}
 use Rattle.cached.proofs.Cached.up_to_date.Statement.{statement}
 use Rattle.cached.proofs.Cached.up_to_date.Tie as tie
-use Rattle.cached.proofs.Cached.up_to_date.Reads as reads
-use Rattle.cached.proofs.Cached.up_to_date.Lts as lts
-use Rattle.cached.proofs.Cached.after.Reads as after-reads
-use Rattle.keys.proofs.Keys.key.Reads as key-reads
 
 key-requires : tie.Need-key-requires
 key-requires c κs = search needs

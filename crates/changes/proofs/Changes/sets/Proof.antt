@@ -2,7 +2,6 @@
 use borrow.Author.Needs.{needs}
 use Prim.Native.Nat.{_-_}
 use mathlib.Core.Bool.{true, false}
-use Rattle.rules.specs.Values as S
 use Rattle.rules.specs.Changes as C
 use Rattle.keys.specs.View.{viewPlace}
 use Rattle.lists.proofs.Loops.{length-mapped}

@@ -1,6 +1,5 @@
 -- `Key::is_empty` meets its contract.
 use borrow.Author.Needs.{needs}
-use native.Mathlib.Omega.{arith}
 use Rattle.lists.proofs.Loops.{length-mapped}
 use Rattle.lists.proofs.Views.{counted-empty}
 use Rattle.keys.specs.View.{viewKey}

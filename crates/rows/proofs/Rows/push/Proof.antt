@@ -1,5 +1,4 @@
 -- `Rows::push` meets its contract.
-use mathlib.Core.Path.{refl}
 use Rattle.lists.proofs.Views.{push-room, push-full}
 use Rattle.lists.proofs.Forms.{form-push}
 use Rattle.rows.specs.View.{viewRows, rowsForm}

@@ -1,7 +1,7 @@
 -- `Rows::without` meets its contract.
 use borrow.Author.Needs.{needs}
 use Prim.Native.Nat.{_-_}
-use mathlib.Core.Path.{_≡_, refl}
+use mathlib.Core.Path.{_≡_}
 use mathlib.Core.Bool.{true, not}
 use Rattle.rules.specs.Lists.{has, keep}
 use Rattle.lists.proofs.Views.{Keeping, keep-start, keep-next, keep-end, keep-past}
