@@ -9,8 +9,8 @@ use Rattle.rules.specs.Lists.{any, all}
 use Rattle.rules.specs.Values.{Place, inRange}
 use Rattle.rules.specs.Changes.{Update}
 use Rattle.rules.specs.Tables as M
-use Rattle.rules.specs.Reading.{current, seen, known}
-use Rattle.rules.specs.Calls.{Mark, fromCache, cachedNow, ownChange, Pick}
+use Rattle.rules.specs.Reading.{seen, known}
+use Rattle.rules.specs.Calls.{Pick}
 use Rattle.rules.specs.Effects.{touched, mark, cacheBy, cacheAfter}
 use Rattle.rules.proofs.Laws.{byCase}
 use Rattle.rules.proofs.Tests.{all-head, all-tail}

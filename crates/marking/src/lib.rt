@@ -80,14 +80,14 @@ pub fn cached(p: Plant, n: u32, k: u8) -> Cache
     ensures form { λ r. ⌜ (plantForm p ≡ true → cacheForm r ≡ true) ⌝ }
 {
     let s = p.sessions.session(n);
-    let own = s.changes;
+    let changes = s.changes;
     let key = p.keys.key(k);
-    if asking::touched(own, key) {
+    if asking::touched(changes, key) {
         return p.cache;
     }
     if p.cache.has(k) {
         return p.cache;
     }
-    let c = worked(p, own, key, k);
+    let c = worked(p, changes, key, k);
     with_room(p.cache).push(c)
 }

@@ -2,16 +2,15 @@
 use mathlib.Core.Path.{_≡_, refl, sym, _∙_, ap}
 use mathlib.Core.Bool.{Bool, true, false, cond, true≢false}
 use mathlib.Core.Option.{Option, none, some}
-use mathlib.Core.List.{List, [], _∷_, _++_, map}
+use mathlib.Core.List.{List, [], _∷_, map}
 use Prim.Native.Nat.{ℕ, suc, _<_, _≤_, _*_}
-use lib.Dec.{ltb}
 use lib.IntN.{ℤ, pos}
-use lib.ListN.{length, drop, length-map}
+use lib.ListN.{length, length-map}
 use mir.Syntax.{w64}
 use mir.Val.{SFits}
 use borrow.Author.Tests.{not-false, ltb-true, ltb-false, le-leb}
 use Rattle.rules.specs.Limits.{keyCount, lastSession, wordsPerField}
-use Rattle.rules.specs.Values.{below, natOf, showAll}
+use Rattle.rules.specs.Values.{below, natOf}
 use Rattle.rules.specs.Values as S
 use Rattle.rules.specs.Refusals.{Refusal, outOfRange, fewWords, storeAway, first}
 use Rattle.rules.specs.Tables as M

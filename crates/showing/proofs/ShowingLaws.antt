@@ -1,6 +1,6 @@
 -- The fields of a key's places, and the words that show them: one law for each way out of a function.
 use mathlib.Core.Path.{_≡_, refl, sym, _∙_, ap}
-use mathlib.Core.Bool.{Bool, true, false, cond}
+use mathlib.Core.Bool.{cond}
 use mathlib.Core.List.{List, [], _∷_, _++_, append-assoc, append-nil, map}
 use Prim.Native.Nat.{ℕ, _+_, _-_, _*_, _≤_, _<_, min}
 use native.Mathlib.Numerals.{add-one}
@@ -23,7 +23,6 @@ use Rattle.field.specs.declared.Field.{Field}
 use Rattle.field.proofs.WordLaws.{show-length}
 use Rattle.lists.proofs.Views.{counted-length, counted-few, counted-full, counted-at}
 use Rattle.cached.specs.View.{viewCached, withField}
-use Rattle.cached.specs.Form.{cachedForm}
 use Rattle.cached.specs.declared.Cached.{Cached}
 use Rattle.asking.proofs.Walks.{Making, make-start, make-next, make-end}
 use Rattle.showing.specs.Shown.{shownIn}
@@ -101,42 +100,42 @@ module _ (c : Cached) (n : ℕ) (e : n ≡ length (viewCached c .fields)) (v : L
         rw (inv .rest) (simp (length-append, length-drop) (omega arith))
 
     -- the part that is lent on
-    part : take (length vs - 8 * i) (drop (8 * i) vs) ≡ drop (8 * i) v
+    part : take (length vs - wordsPerField * i) (drop (wordsPerField * i) vs) ≡ drop (wordsPerField * i) v
     part =
-        let q : length (drop (8 * i) vs) ≤ length vs - 8 * i = simp length-drop (omega arith) in
-        take-all (length vs - 8 * i) (drop (8 * i) vs) q ∙ rw (inv .rest) (drop-at (showAll (take i (viewCached c .fields))) (drop (8 * i) v) (8 * i) (inv .eights))
+        let q : length (drop (wordsPerField * i) vs) ≤ length vs - wordsPerField * i = simp length-drop (omega arith) in
+        take-all (length vs - wordsPerField * i) (drop (wordsPerField * i) vs) q ∙ rw (inv .rest) (drop-at (showAll (take i (viewCached c .fields))) (drop (wordsPerField * i) v) (wordsPerField * i) (inv .eights))
 
     module _ (h : i < n) (l : length (c .fields) ≡ 4) (d : Field) (ys : List ℤ)
-        (w : ys ≡ cond (leb wordsPerField (length (take (length vs - 8 * i) (drop (8 * i) vs)))) (show (viewField (getD (c .fields) i d)) ++ drop wordsPerField (take (length vs - 8 * i) (drop (8 * i) vs))) (take (length vs - 8 * i) (drop (8 * i) vs))) where
+        (w : ys ≡ cond (leb wordsPerField (length (take (length vs - wordsPerField * i) (drop (wordsPerField * i) vs)))) (show (viewField (getD (c .fields) i d)) ++ drop wordsPerField (take (length vs - wordsPerField * i) (drop (wordsPerField * i) vs))) (take (length vs - wordsPerField * i) (drop (wordsPerField * i) vs))) where
       abbrev fs : List S.Field
       fs = viewCached c .fields
 
       abbrev new : List ℤ
       new = show (getD fs i S.absent)
 
-      written : ys ≡ new ++ drop (8 * (i + 1)) v
+      written : ys ≡ new ++ drop (wordsPerField * (i + 1)) v
       written =
           let b = inv .room in
-          let m : 8 ≤ length (drop (8 * i) v) = simp length-drop (omega arith) in
-          let z : 8 * i + 8 ≡ 8 * (i + 1) = omega arith in
-          w ∙ rw (part, le-leb 8 (length (drop (8 * i) v)) m, field-at c l i d (omega arith))
-          (ap (λ (p : List ℤ). new ++ p) (drop-drop 8 (8 * i) v ∙ ap (λ (p : ℕ). drop p v) z))
+          let m : wordsPerField ≤ length (drop (wordsPerField * i) v) = simp length-drop (omega arith) in
+          let z : wordsPerField * i + wordsPerField ≡ wordsPerField * (i + 1) = omega arith in
+          w ∙ rw (part, le-leb wordsPerField (length (drop (wordsPerField * i) v)) m, field-at c l i d (omega arith))
+          (ap (λ (p : List ℤ). new ++ p) (drop-drop wordsPerField (wordsPerField * i) v ∙ ap (λ (p : ℕ). drop p v) z))
 
       one-more : showAll (take (i + 1) fs) ≡ showAll (take i fs) ++ new
       one-more = rw (add-one i, take-suc fs i S.absent (omega arith)) (show-last (take i fs) (getD fs i S.absent))
 
-      pub show-next : Showing fs v (putMid (8 * i) (length vs - 8 * i) vs ys) (i + 1)
+      pub show-next : Showing fs v (putMid (wordsPerField * i) (length vs - wordsPerField * i) vs ys) (i + 1)
       show-next =
           let g = inv .eights in
-          let q : length (drop (8 * i) vs) ≤ length vs - 8 * i = simp length-drop (omega arith) in
-          let s : take (8 * i) vs ≡ showAll (take i fs) = rw (inv .rest) (take-at (showAll (take i fs)) (drop (8 * i) v) (8 * i) g) in
+          let q : length (drop (wordsPerField * i) vs) ≤ length vs - wordsPerField * i = simp length-drop (omega arith) in
+          let s : take (wordsPerField * i) vs ≡ showAll (take i fs) = rw (inv .rest) (take-at (showAll (take i fs)) (drop (wordsPerField * i) v) (wordsPerField * i) g) in
           record {
             room = inv .room;
             at = omega arith;
             rest =
-                ap (λ (p : List ℤ). take (8 * i) vs ++ (ys ++ p)) (drop-of-length-le (drop (8 * i) vs) q)
-                ∙ ap (λ (p : List ℤ). take (8 * i) vs ++ p) (append-nil ys)
-                ∙ rw (s, written, one-more) (sym (append-assoc (showAll (take i fs)) new (drop (8 * (i + 1)) v)));
+                ap (λ (p : List ℤ). take (wordsPerField * i) vs ++ (ys ++ p)) (drop-of-length-le (drop (wordsPerField * i) vs) q)
+                ∙ ap (λ (p : List ℤ). take (wordsPerField * i) vs ++ p) (append-nil ys)
+                ∙ rw (s, written, one-more) (sym (append-assoc (showAll (take i fs)) new (drop (wordsPerField * (i + 1)) v)));
             eights = rw one-more (simp length-append (omega (arith, show-length (getD fs i S.absent))));
           }
 
@@ -145,4 +144,4 @@ module _ (c : Cached) (n : ℕ) (e : n ≡ length (viewCached c .fields)) (v : L
     show-end h =
         let a = inv .at in
         let q : i ≡ length (viewCached c .fields) = omega arith in
-        inv .rest ∙ rw (q, take-all (length (viewCached c .fields)) (viewCached c .fields) (omega arith), le-leb (8 * length (viewCached c .fields)) (length v) (inv .room)) refl
+        inv .rest ∙ rw (q, take-all (length (viewCached c .fields)) (viewCached c .fields) (omega arith), le-leb (wordsPerField * length (viewCached c .fields)) (length v) (inv .room)) refl

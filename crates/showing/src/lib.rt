@@ -53,8 +53,8 @@ pub fn away(keys: Keys, cache: Cache, buffer: Buffer, own: Changes, key: Key, k:
     let mut t = Cached::of(k);
     let mut i: u8 = 0;
     while i < n {
-        let q = key.place(i);
-        t = t.push(reading::seen_away(keys, cache, buffer, own, q));
+        let place = key.place(i);
+        t = t.push(reading::seen_away(keys, cache, buffer, own, place));
         i += 1;
     }
     t

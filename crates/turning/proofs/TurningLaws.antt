@@ -1,7 +1,6 @@
 -- Who is turned away from a read: one law for each way out.
 use mathlib.Core.Path.{_≡_, refl, sym, _∙_, ap}
 use mathlib.Core.Bool.{Bool, true, false, not}
-use mathlib.Core.Option.{Option, none, some}
 use mathlib.Core.List.{List, [], _∷_}
 use Prim.Native.Nat.{ℕ, _*_, _≤_, _<_}
 use lib.IntN.{ℤ, pos}
@@ -9,7 +8,7 @@ use lib.ListN.{length}
 use borrow.Author.Tests.{lt-ltb, le-ltb}
 use Rattle.rules.specs.Limits.{keyCount, wordsPerField}
 use Rattle.rules.specs.Lists.{any, isEmpty}
-use Rattle.rules.specs.Refusals.{Refusal, outOfRange, noSlot, wasDoomed, keyUndefined, fewWords, exclusiveElsewhere, storeAway, first, _⇒_}
+use Rattle.rules.specs.Refusals.{outOfRange, noSlot, wasDoomed, keyUndefined, fewWords, exclusiveElsewhere, storeAway, first, _⇒_}
 use Rattle.rules.specs.Tables as M
 use Rattle.rules.specs.Reading.{knownAway}
 use Rattle.rules.specs.Calls.{Read, Answer, refused, fine}
