@@ -17,7 +17,8 @@ use Rattle.rules.proofs.Tests.{all-head, all-tail}
 use Rattle.rules.proofs.KeptParts.{Kept}
 use Rattle.rules.proofs.Away.{value-is, key-places, cachedFields, cached-fields, untouched-shows}
 use Rattle.showing.specs.Shown.{cachedAt}
-use Rattle.marking.specs.Fields.{value, ownOf, workedFields, shownFields, cacheNow}
+use Rattle.seeing.specs.Value.{value}
+use Rattle.marking.specs.Fields.{ownOf, workedFields, shownFields, cacheNow}
 
 at-fields : (k : ℕ) (l : List M.Cached) → cachedAt k l .fields ≡ cachedFields k l
 unfolding cachedAt

@@ -33,7 +33,8 @@ use Rattle.plant.specs.View.{viewPlant, plantForm}
 use Rattle.plant.specs.declared.Plant.{Plant}
 use Rattle.plant.proofs.Formed.{form-parts}
 use Rattle.showing.specs.Shown.{cachedAt}
-use Rattle.marking.specs.Fields.{value, workedFields, byMark, shownFields, cacheNow}
+use Rattle.seeing.specs.Value.{value}
+use Rattle.marking.specs.Fields.{workedFields, byMark, shownFields, cacheNow}
 
 -- ── worked out ──
 module _ (p : Plant) (own : List Update) (qs : List S.Place) (k : ℕ) where

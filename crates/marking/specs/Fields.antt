@@ -1,18 +1,13 @@
 -- What a read shows and caches, as the code finds it. On a kept plant these are the fields that the session sees (`proofs/Kept`).
 use Prim.Native.Nat.{ℕ}
-use mathlib.Core.Bool.{cond}
 use mathlib.Core.List.{List, map}
 use Rattle.rules.specs.Values as S
 use Rattle.rules.specs.Changes.{Update}
 use Rattle.rules.specs.Tables as M
-use Rattle.rules.specs.Reading.{seen, seenAway}
 use Rattle.rules.specs.Calls.{Mark, fromCache, cachedNow, ownChange}
 use Rattle.rules.specs.Effects.{mark, cacheBy}
+use Rattle.seeing.specs.Value.{value}
 use Rattle.showing.specs.Shown.{cachedAt}
-
--- from store and buffer while the store is near, else without the store
-abbrev pub value : M.Plant → List Update → S.Stock
-value p own q = cond (p .near) (seen p own q) (seenAway (p .keys) (p .cache) (p .buffer) own q)
 
 -- a session's changes, by its number
 abbrev pub ownOf : ℕ → M.Plant → List Update

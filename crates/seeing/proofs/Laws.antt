@@ -29,16 +29,15 @@ module _ (p : Plant) (own : List Update) (q : Place) where
   known-away n b e = e ∙ rw n refl
 
   pub value-near : p .near ≡ true → (f : Field) → f ≡ follow (follow (viewStore (p .store)) (changesIn (pending (viewRows (p .rows)) (viewBuffer (p .buffer))))) own q → f ≡ value (viewPlant p) own q
-  unfolding viewPlant value
+  unfolding viewPlant
   value-near n f e = e ∙ rw n refl
 
   pub value-away : p .near ≡ false → (f : Field) → f ≡ seenAway (viewKeys (p .keys)) (viewCache (p .cache)) (viewBuffer (p .buffer)) own q → f ≡ value (viewPlant p) own q
-  unfolding viewPlant value
+  unfolding viewPlant
   value-away n f e = e ∙ rw n refl
 
   -- on a kept plant, what is known is found as it is
   pub value-seen : keptPlant p ≡ true → inRange q ≡ true → known (viewPlant p) own q ≡ true → value (viewPlant p) own q ≡ seen (viewPlant p) own q
-  unfolding value
   value-seen k r = value-is (viewPlant p) own q (kept-parts p k) r
 
 module _ (p : Plant) (f : Bool) where
