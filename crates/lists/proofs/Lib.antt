@@ -1,7 +1,8 @@
--- General laws: loops, tables through a view, tables by index, forms.
+-- General laws: loops, tables through a view, tables by index, forms, lists by their numbers.
 pub mod Loops
 pub mod Views
 pub mod Indexed
 pub mod Forms
 pub mod Remake
 pub mod Ends
+pub mod Walks

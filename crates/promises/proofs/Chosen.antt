@@ -19,7 +19,8 @@ use Rattle.rules.proofs.Buffer.{once-keep}
 use Rattle.rules.proofs.KeptTest.{kept-iff, kept-step}
 use Rattle.plant.specs.View.{viewPlant, plantForm, keptPlant}
 use Rattle.plant.specs.declared.Plant.{Plant}
-use Rattle.promises.specs.Promise.{chosen}
+use Rattle.answers.specs.declared.Answer.{Answer}
+use Rattle.promises.specs.Promise.{chosen, Leaves, Keeps}
 
 -- ── the first numbers of a list that pass a test ──
 all-has : (l : List ℕ) → all (λ n. has n l) l ≡ true
@@ -69,3 +70,8 @@ unfolding keptPlant
 kept-left c lent p q e k f =
     let h = and-true (plantForm p) (kept (viewPlant p)) k .1 in
     both (plantForm q) (kept (viewPlant q)) f (ap kept e ∙ kept-step c lent (chosen (viewPlant p)) (viewPlant p) (chosen-allowed (viewPlant p) h) h)
+
+-- so does the plant that a call's `after` leaves, whichever call it is
+pub leaves-keep : (c : Call) (p q : Plant) (a : Answer) → Leaves c p a q → (plantForm p ≡ true → plantForm q ≡ true) → Keeps c p a q
+unfolding keptPlant
+leaves-keep c p q a l f k lent e = kept-left c lent p q (l k lent e) k (f (and-true (plantForm p) (kept (viewPlant p)) k .0))

@@ -30,3 +30,7 @@ Answers c lent p a = keptPlant p ≡ true → viewAnswer a ≡ result c lent p .
 -- a is what the call answers
 abbrev pub Leaves : Call → Plant → Answer → Plant → Type 0
 Leaves c p a q = keptPlant p ≡ true → (lent : List ℤ) → viewAnswer a ≡ result c lent p .answer → viewPlant q ≡ result c lent p .plant
+
+-- it keeps the tables' rules. This follows from `Leaves` and from that the plant's form is kept (`proofs/Chosen`, `leaves-keep`)
+abbrev pub Keeps : Call → Plant → Answer → Plant → Type 0
+Keeps c p a q = keptPlant p ≡ true → (lent : List ℤ) → viewAnswer a ≡ result c lent p .answer → keptPlant q ≡ true

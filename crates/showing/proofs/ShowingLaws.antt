@@ -24,7 +24,7 @@ use Rattle.field.proofs.WordLaws.{show-length}
 use Rattle.lists.proofs.Views.{counted-length, counted-few, counted-full, counted-at}
 use Rattle.cached.specs.View.{viewCached, withField}
 use Rattle.cached.specs.declared.Cached.{Cached}
-use Rattle.asking.proofs.Walks.{Making, make-start, make-next, make-end}
+use Rattle.lists.proofs.Walks.{Making, make-start, make-next, make-end}
 use Rattle.showing.specs.Shown.{shownIn}
 
 -- ── a loop that puts what g makes of each place of a key into a cached key of number k ──

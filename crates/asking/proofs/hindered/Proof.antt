@@ -5,7 +5,7 @@ use mathlib.Core.Path.{sym, _∙_}
 use Rattle.rules.specs.Tables.{othersExclusive}
 use Rattle.keys.specs.View.{viewPlace, viewKey}
 use Rattle.sessions.specs.View.{viewSessions}
-use Rattle.asking.proofs.Walks.{Asking, ask-start, ask-hit, ask-next, ask-end}
+use Rattle.lists.proofs.Walks.{Asking, ask-start, ask-hit, ask-next, ask-end}
 use Rattle.asking.proofs.hindered.Statement.{statement}
 use Rattle.asking.proofs.hindered.Tie as tie
 

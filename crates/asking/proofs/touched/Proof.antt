@@ -5,7 +5,7 @@ use mathlib.Core.Path.{sym, _∙_}
 use Rattle.rules.specs.Changes.{touches}
 use Rattle.keys.specs.View.{viewKey}
 use Rattle.changes.specs.View.{viewChanges}
-use Rattle.asking.proofs.Walks.{Asking, ask-start, ask-hit, ask-next, ask-end}
+use Rattle.lists.proofs.Walks.{Asking, ask-start, ask-hit, ask-next, ask-end}
 use Rattle.asking.proofs.touched.Statement.{statement}
 use Rattle.asking.proofs.touched.Tie as tie
 

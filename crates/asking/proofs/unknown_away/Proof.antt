@@ -8,7 +8,7 @@ use Rattle.keys.specs.View.{viewKey, viewKeys}
 use Rattle.changes.specs.View.{viewChanges}
 use Rattle.buffer.specs.View.{viewBuffer}
 use Rattle.cache.specs.View.{viewCache}
-use Rattle.asking.proofs.Walks.{Asking, ask-start, ask-hit, ask-next, ask-end}
+use Rattle.lists.proofs.Walks.{Asking, ask-start, ask-hit, ask-next, ask-end}
 use Rattle.asking.proofs.unknown_away.Statement.{statement}
 use Rattle.asking.proofs.unknown_away.Tie as tie
 

@@ -1,2 +1,0 @@
--- What the parts of the calls promise.
-pub mod Told

@@ -1,0 +1,30 @@
+-- `reply` meets its contract.
+use Rattle.apply.proofs.Laws.{told-none, told-before, told-full, told-done}
+use borrow.Author.Needs.{needs}
+use Rattle.apply.proofs.reply.Statement.{statement}
+use Rattle.apply.proofs.reply.Tie as tie
+
+returns : tie.Need-returns
+returns c = search (told-none, needs)
+
+has-requires : tie.Need-has-requires
+has-requires c κs = search needs
+
+returns-2 : tie.Need-returns-2
+returns-2 c = search (told-before, needs)
+
+len-requires : tie.Need-len-requires
+len-requires c κs = search needs
+
+cast-if3 : tie.Need-cast-if3
+cast-if3 c = search needs
+
+returns-3 : tie.Need-returns-3
+returns-3 c = search (told-full, needs)
+
+returns-4 : tie.Need-returns-4
+returns-4 c = search (told-done, needs)
+
+pub reply-spec : {M : Type 1} → statement M
+reply-spec =
+    tie.close (tie.spec returns has-requires returns-2 len-requires cast-if3 returns-3 returns-4)

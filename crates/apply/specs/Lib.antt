@@ -1,0 +1,2 @@
+-- What the parts of apply promise.
+pub mod Told

@@ -1,0 +1,2 @@
+-- What the parts of sweep promise.
+pub mod MayGo
