@@ -10,7 +10,7 @@ ghost use Rattle.workers.specs.View.{viewHand};
 ghost use Rattle.rows.specs.View.{viewRows};
 ghost use Rattle.answers.specs.View.{viewAnswer};
 ghost use Rattle.plant.specs.View.{viewPlant, keptPlant, plantForm};
-ghost use Rattle.promises.specs.Promise.{Answers, Leaves};
+ghost use Rattle.promises.specs.Promise.{Answers, Leaves, Keeps};
 ghost use Rattle.apply.specs.Told.{noRowFor, told};
 use answers::Answer;
 use answers::Refusal;
@@ -95,6 +95,7 @@ fn carry(mut p: Plant, n: u32) -> Plant
 pub fn after(mut p: Plant, worker: i64, fate: i64, a: Answer) -> Plant
     ensures shows { λ r. ⌜ Leaves (Apply worker fate) p a r ⌝ }
     ensures form { λ r. ⌜ (plantForm p ≡ true → plantForm r ≡ true) ⌝ }
+    ensures kept { λ r. ⌜ Keeps (Apply worker fate) p a r ⌝ }
 {
     if a.is_refused() {
         return p;

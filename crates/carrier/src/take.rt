@@ -5,7 +5,7 @@ ghost use mathlib.Core.List.{List};
 ghost use lib.IntN.{ℤ};
 ghost use Rattle.rules.specs.Calls.{Take};
 ghost use Rattle.plant.specs.View.{plantForm};
-ghost use Rattle.promises.specs.Promise.{Answers, Leaves};
+ghost use Rattle.promises.specs.Promise.{Answers, Leaves, Keeps};
 use answers::Answer;
 use answers::Refusal;
 use plant::Plant;
@@ -36,6 +36,7 @@ pub fn answer(p: Plant, worker: i64) -> Answer
 pub fn after(mut p: Plant, worker: i64, a: Answer) -> Plant
     ensures shows { λ r. ⌜ Leaves (Take worker) p a r ⌝ }
     ensures form { λ r. ⌜ (plantForm p ≡ true → plantForm r ≡ true) ⌝ }
+    ensures kept { λ r. ⌜ Keeps (Take worker) p a r ⌝ }
 {
     if a.is_refused() {
         return p;

@@ -11,7 +11,7 @@ ghost use Rattle.field.specs.View.{viewField};
 ghost use Rattle.changes.specs.View.{viewChanges, viewUpdate};
 ghost use Rattle.plant.specs.View.{viewPlant, plantForm};
 ghost use Rattle.answers.specs.View.{viewAnswer};
-ghost use Rattle.promises.specs.Promise.{Answers, Leaves};
+ghost use Rattle.promises.specs.Promise.{Answers, Leaves, Keeps};
 ghost use Rattle.change.specs.Met.{told, laterAnswer};
 use answers::Answer;
 use answers::Refusal;
@@ -90,6 +90,7 @@ pub fn after(
 ) -> Plant
     ensures shows { λ r. ⌜ Leaves (Change session document field kind value) p a r ⌝ }
     ensures form { λ r. ⌜ (plantForm p ≡ true → plantForm r ≡ true) ⌝ }
+    ensures kept { λ r. ⌜ Keeps (Change session document field kind value) p a r ⌝ }
 {
     if a.ends_session() {
         return ending::ended(p, session);

@@ -9,7 +9,7 @@ ghost use Rattle.rules.specs.Limits.{advanceLimit, lastTick};
 ghost use Rattle.rules.specs.Values.{below, natOf};
 ghost use Rattle.rules.specs.Calls.{Advance};
 ghost use Rattle.plant.specs.View.{plantForm};
-ghost use Rattle.promises.specs.Promise.{Answers, Leaves};
+ghost use Rattle.promises.specs.Promise.{Answers, Leaves, Keeps};
 use answers::Answer;
 use answers::Refusal;
 use plant::Plant;
@@ -62,6 +62,7 @@ pub fn answer(p: Plant, ticks: i64) -> Answer
 pub fn after(mut p: Plant, ticks: i64, a: Answer) -> Plant
     ensures shows { λ r. ⌜ Leaves (Advance ticks) p a r ⌝ }
     ensures form { λ r. ⌜ (plantForm p ≡ true → plantForm r ≡ true) ⌝ }
+    ensures kept { λ r. ⌜ Keeps (Advance ticks) p a r ⌝ }
 {
     if a.is_refused() {
         return p;

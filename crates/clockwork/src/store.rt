@@ -5,7 +5,7 @@ ghost use mathlib.Core.List.{List};
 ghost use lib.IntN.{ℤ};
 ghost use Rattle.rules.specs.Calls.{Store};
 ghost use Rattle.plant.specs.View.{plantForm};
-ghost use Rattle.promises.specs.Promise.{Answers, Leaves};
+ghost use Rattle.promises.specs.Promise.{Answers, Leaves, Keeps};
 use answers::Answer;
 use answers::Refusal;
 use plant::Plant;
@@ -24,6 +24,7 @@ pub fn answer(p: Plant, mark: i64) -> Answer
 pub fn after(mut p: Plant, mark: i64, a: Answer) -> Plant
     ensures shows { λ r. ⌜ Leaves (Store mark) p a r ⌝ }
     ensures form { λ r. ⌜ (plantForm p ≡ true → plantForm r ≡ true) ⌝ }
+    ensures kept { λ r. ⌜ Keeps (Store mark) p a r ⌝ }
 {
     if a.is_refused() {
         return p;

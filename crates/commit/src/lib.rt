@@ -10,7 +10,7 @@ ghost use Rattle.changes.specs.Form.{changesForm};
 ghost use Rattle.buffer.specs.View.{viewBuffer};
 ghost use Rattle.buffer.specs.Form.{bufferForm};
 ghost use Rattle.plant.specs.View.{plantForm};
-ghost use Rattle.promises.specs.Promise.{Answers, Leaves};
+ghost use Rattle.promises.specs.Promise.{Answers, Leaves, Keeps};
 use answers::Answer;
 use answers::Refusal;
 use batch::Batch;
@@ -54,6 +54,7 @@ pub fn answer(p: Plant, session: i64) -> Answer
 pub fn after(mut p: Plant, session: i64, a: Answer) -> Plant
     ensures shows { λ r. ⌜ Leaves (Commit session) p a r ⌝ }
     ensures form { λ r. ⌜ (plantForm p ≡ true → plantForm r ≡ true) ⌝ }
+    ensures kept { λ r. ⌜ Keeps (Commit session) p a r ⌝ }
 {
     if a.ends_session() {
         return ending::ended(p, session);

@@ -75,3 +75,7 @@ kept-left c lent p q e k f =
 pub leaves-keep : (c : Call) (p q : Plant) (a : Answer) → Leaves c p a q → (plantForm p ≡ true → plantForm q ≡ true) → Keeps c p a q
 unfolding keptPlant
 leaves-keep c p q a l f k lent e = kept-left c lent p q (l k lent e) k (f (and-true (plantForm p) (kept (viewPlant p)) k .0))
+
+-- the three promises of an `after`
+pub and-keeps : (c : Call) (p q : Plant) (a : Answer) → Leaves c p a q → (plantForm p ≡ true → plantForm q ≡ true) → Leaves c p a q × ((plantForm p ≡ true → plantForm q ≡ true) × Keeps c p a q)
+and-keeps c p q a l f = (l, (f, leaves-keep c p q a l f))

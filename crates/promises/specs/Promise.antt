@@ -16,7 +16,7 @@ use Rattle.answers.specs.View.{viewAnswer}
 use Rattle.answers.specs.declared.Answer.{Answer}
 
 -- what the code chooses where the paper leaves it free: the oldest cached key gives way, and a sweep takes the first rows it may.
--- `Allowed` holds of it (`proofs/Chosen`); the entry over all calls promises no more than that
+-- `Allowed` holds of it (`proofs/Chosen`); an entry over all calls will promise no more than that
 unfoldable pub chosen : M.Plant → Pick
 chosen p = record { gives = 0; swept = take sweepLimit (keep (M.removable p) (p .rows)) }
 

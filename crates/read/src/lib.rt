@@ -3,7 +3,7 @@ ghost use mathlib.Core.Path.{_≡_};
 ghost use mathlib.Core.Bool.{true};
 ghost use Rattle.rules.specs.Calls.{Read};
 ghost use Rattle.plant.specs.View.{plantForm, keptPlant};
-ghost use Rattle.promises.specs.Promise.{result, Answers, Leaves};
+ghost use Rattle.promises.specs.Promise.{result, Answers, Leaves, Keeps};
 use answers::Answer;
 use keys::Keys;
 use plant::Plant;
@@ -27,6 +27,7 @@ pub fn answer(p: Plant, session: i64, key: i64, words: &mut [i32]) -> Answer
 pub fn after(mut p: Plant, session: i64, key: i64, a: Answer) -> Plant
     ensures shows { λ r. ⌜ Leaves (Read session key) p a r ⌝ }
     ensures form { λ r. ⌜ (plantForm p ≡ true → plantForm r ≡ true) ⌝ }
+    ensures kept { λ r. ⌜ Keeps (Read session key) p a r ⌝ }
 {
     if a.ends_session() {
         return ending::ended(p, session);

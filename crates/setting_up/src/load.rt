@@ -5,7 +5,7 @@ ghost use mathlib.Core.List.{List};
 ghost use lib.IntN.{ℤ};
 ghost use Rattle.rules.specs.Calls.{Load};
 ghost use Rattle.plant.specs.View.{plantForm};
-ghost use Rattle.promises.specs.Promise.{Answers, Leaves};
+ghost use Rattle.promises.specs.Promise.{Answers, Leaves, Keeps};
 use answers::Answer;
 use answers::Refusal;
 use field::Applied;
@@ -35,6 +35,7 @@ pub fn answer(p: Plant, document: i64, field: i64, kind: i64, value: i64) -> Ans
 pub fn after(mut p: Plant, document: i64, field: i64, kind: i64, value: i64, a: Answer) -> Plant
     ensures shows { λ r. ⌜ Leaves (Load document field kind value) p a r ⌝ }
     ensures form { λ r. ⌜ (plantForm p ≡ true → plantForm r ≡ true) ⌝ }
+    ensures kept { λ r. ⌜ Keeps (Load document field kind value) p a r ⌝ }
 {
     if a.is_refused() {
         return p;

@@ -5,7 +5,7 @@ ghost use mathlib.Core.List.{List};
 ghost use lib.IntN.{ℤ};
 ghost use Rattle.rules.specs.Calls.{Map};
 ghost use Rattle.plant.specs.View.{plantForm};
-ghost use Rattle.promises.specs.Promise.{Answers, Leaves};
+ghost use Rattle.promises.specs.Promise.{Answers, Leaves, Keeps};
 ghost use Rattle.places.specs.View.{pairs};
 use answers::Answer;
 use answers::Refusal;
@@ -68,6 +68,7 @@ pub fn after(
 ) -> Plant
     ensures shows { λ r. ⌜ Leaves (Map key count (pairs d1 f1 d2 f2 d3 f3 d4 f4)) p a r ⌝ }
     ensures form { λ r. ⌜ (plantForm p ≡ true → plantForm r ≡ true) ⌝ }
+    ensures kept { λ r. ⌜ Keeps (Map key count (pairs d1 f1 d2 f2 d3 f3 d4 f4)) p a r ⌝ }
 {
     if a.is_refused() {
         return p;

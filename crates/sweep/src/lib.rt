@@ -9,7 +9,7 @@ ghost use Rattle.rules.specs.Lists.{keep, pushed};
 ghost use Rattle.rules.specs.Calls.{Sweep};
 ghost use Rattle.rows.specs.View.{viewRows, viewPicks};
 ghost use Rattle.plant.specs.View.{plantForm};
-ghost use Rattle.promises.specs.Promise.{Answers, Leaves};
+ghost use Rattle.promises.specs.Promise.{Answers, Leaves, Keeps};
 ghost use Rattle.buffer.specs.View.{viewBuffer};
 ghost use Rattle.workers.specs.View.{viewHands};
 ghost use Rattle.sweep.specs.MayGo.{mayGo};
@@ -72,6 +72,7 @@ pub fn answer(p: Plant) -> Answer
 pub fn after(mut p: Plant, a: Answer) -> Plant
     ensures shows { λ r. ⌜ Leaves Sweep p a r ⌝ }
     ensures form { λ r. ⌜ (plantForm p ≡ true → plantForm r ≡ true) ⌝ }
+    ensures kept { λ r. ⌜ Keeps Sweep p a r ⌝ }
 {
     if a.is_refused() {
         return p;

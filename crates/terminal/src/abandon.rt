@@ -5,7 +5,7 @@ ghost use mathlib.Core.List.{List};
 ghost use lib.IntN.{ℤ};
 ghost use Rattle.rules.specs.Calls.{Abandon};
 ghost use Rattle.plant.specs.View.{plantForm};
-ghost use Rattle.promises.specs.Promise.{Answers, Leaves};
+ghost use Rattle.promises.specs.Promise.{Answers, Leaves, Keeps};
 use answers::Answer;
 use answers::Refusal;
 use plant::Plant;
@@ -27,6 +27,7 @@ pub fn answer(p: Plant, session: i64) -> Answer
 pub fn after(p: Plant, session: i64, a: Answer) -> Plant
     ensures shows { λ r. ⌜ Leaves (Abandon session) p a r ⌝ }
     ensures form { λ r. ⌜ (plantForm p ≡ true → plantForm r ≡ true) ⌝ }
+    ensures kept { λ r. ⌜ Keeps (Abandon session) p a r ⌝ }
 {
     if a.ends_session() {
         return ending::ended(p, session);

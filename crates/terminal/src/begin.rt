@@ -10,7 +10,7 @@ ghost use Rattle.rules.specs.Lists.{any};
 ghost use Rattle.rules.specs.Calls.{Begin};
 ghost use Rattle.sessions.specs.View.{viewSessions};
 ghost use Rattle.plant.specs.View.{plantForm};
-ghost use Rattle.promises.specs.Promise.{Answers, Leaves};
+ghost use Rattle.promises.specs.Promise.{Answers, Leaves, Keeps};
 use answers::Answer;
 use answers::Refusal;
 use plant::Plant;
@@ -45,6 +45,7 @@ pub fn answer(p: Plant) -> Answer
 pub fn after(mut p: Plant, a: Answer) -> Plant
     ensures shows { λ r. ⌜ Leaves Begin p a r ⌝ }
     ensures form { λ r. ⌜ (plantForm p ≡ true → plantForm r ≡ true) ⌝ }
+    ensures kept { λ r. ⌜ Keeps Begin p a r ⌝ }
 {
     let next = p.next;
     if a.is_refused() {

@@ -1,5 +1,6 @@
 -- `cut::after` meets its contract.
 use Rattle.carrier.proofs.cut.Laws.{turned-away, emptied, emptied-form}
+use Rattle.promises.proofs.Chosen.{and-keeps}
 use borrow.Author.Needs.{needs}
 use Rattle.carrier.proofs.cut.after.Statement.{statement}
 use Rattle.carrier.proofs.cut.after.Tie as tie
@@ -8,7 +9,7 @@ is-refused-requires : tie.Need-is-refused-requires
 is-refused-requires c κs = search needs
 
 returns : tie.Need-returns
-returns c = (search (turned-away, needs), λ f. f)
+returns c = and-keeps _ _ _ (c .before .before .args .a) (search (turned-away, needs)) (λ f. f)
 
 cast-index : tie.Need-cast-index
 cast-index c = search needs
@@ -26,7 +27,7 @@ orphaned-requires : tie.Need-orphaned-requires
 orphaned-requires c κs = search needs
 
 returns-2 : tie.Need-returns-2
-returns-2 c = search (emptied, emptied-form, needs)
+returns-2 c = and-keeps _ _ _ (c .before .before .before .before .before .before .args .a) (search (emptied, needs)) (search (emptied-form, needs))
 
 pub after-spec : {M : Type 1} → statement M
 after-spec =

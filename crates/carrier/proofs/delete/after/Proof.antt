@@ -1,5 +1,6 @@
 -- `delete::after` meets its contract.
 use Rattle.carrier.proofs.delete.Laws.{turned-away, unbuffered, unbuffered-form}
+use Rattle.promises.proofs.Chosen.{and-keeps}
 use borrow.Author.Needs.{needs}
 use Rattle.carrier.proofs.delete.after.Statement.{statement}
 use Rattle.carrier.proofs.delete.after.Tie as tie
@@ -8,7 +9,7 @@ is-refused-requires : tie.Need-is-refused-requires
 is-refused-requires c κs = search needs
 
 returns : tie.Need-returns
-returns c = (search (turned-away, needs), λ f. f)
+returns c = and-keeps _ _ _ (c .before .before .args .a) (search (turned-away, needs)) (λ f. f)
 
 cast-index : tie.Need-cast-index
 cast-index c = search needs
@@ -35,7 +36,7 @@ ended-requires : tie.Need-ended-requires
 ended-requires c κs = search needs
 
 returns-2 : tie.Need-returns-2
-returns-2 c = search (unbuffered, unbuffered-form, needs)
+returns-2 c = and-keeps _ _ _ (c .before .before .before .before .before .before .before .before .before .args .a) (search (unbuffered, needs)) (search (unbuffered-form, needs))
 
 pub after-spec : {M : Type 1} → statement M
 after-spec =

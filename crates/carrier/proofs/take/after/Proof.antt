@@ -1,6 +1,7 @@
 -- `take::after` meets its contract.
 use Rattle.carrier.proofs.take.Laws.{in-hand, in-hand-form}
 use Rattle.promises.proofs.Leaving.{turned-away}
+use Rattle.promises.proofs.Chosen.{and-keeps}
 use borrow.Author.Needs.{needs}
 use Rattle.carrier.proofs.take.after.Statement.{statement}
 use Rattle.carrier.proofs.take.after.Tie as tie
@@ -9,7 +10,7 @@ is-refused-requires : tie.Need-is-refused-requires
 is-refused-requires c κs = search needs
 
 returns : tie.Need-returns
-returns c = (search (turned-away, needs), λ f. f)
+returns c = and-keeps _ _ _ (c .before .before .args .a) (search (turned-away, needs)) (λ f. f)
 
 cast-index : tie.Need-cast-index
 cast-index c = search needs
@@ -30,7 +31,7 @@ taken-requires : tie.Need-taken-requires
 taken-requires c κs = search needs
 
 returns-2 : tie.Need-returns-2
-returns-2 c = search (in-hand, in-hand-form, needs)
+returns-2 c = and-keeps _ _ _ (c .before .before .before .before .before .before .before .args .a) (search (in-hand, needs)) (search (in-hand-form, needs))
 
 pub after-spec : {M : Type 1} → statement M
 after-spec =

@@ -1,5 +1,6 @@
 -- `advance::after` meets its contract.
 use Rattle.clockwork.proofs.advance.Laws.{turned-away, gone-on, gone-on-form}
+use Rattle.promises.proofs.Chosen.{and-keeps}
 use borrow.Author.Needs.{needs}
 use Rattle.clockwork.proofs.advance.after.Statement.{statement}
 use Rattle.clockwork.proofs.advance.after.Tie as tie
@@ -8,7 +9,7 @@ is-refused-requires : tie.Need-is-refused-requires
 is-refused-requires c κs = search needs
 
 returns : tie.Need-returns
-returns c = (search (turned-away, needs), λ f. f)
+returns c = and-keeps _ _ _ (c .before .before .args .a) (search (turned-away, needs)) (λ f. f)
 
 ticks-of-requires : tie.Need-ticks-of-requires
 ticks-of-requires c κs = search needs
@@ -29,7 +30,7 @@ lapsed-requires-2 : tie.Need-lapsed-requires-2
 lapsed-requires-2 c κs = search needs
 
 returns-2 : tie.Need-returns-2
-returns-2 c = search (gone-on, gone-on-form, needs)
+returns-2 c = and-keeps _ _ _ (c .before .before .before .before .before .before .before .before .args .a) (search (gone-on, needs)) (search (gone-on-form, needs))
 
 pub after-spec : {M : Type 1} → statement M
 after-spec =

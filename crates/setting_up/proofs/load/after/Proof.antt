@@ -1,5 +1,6 @@
 -- `load::after` meets its contract.
 use Rattle.setting_up.proofs.load.Laws.{turned-away, made, made-form}
+use Rattle.promises.proofs.Chosen.{and-keeps}
 use borrow.Author.Needs.{needs}
 use Rattle.setting_up.proofs.load.after.Statement.{statement}
 use Rattle.setting_up.proofs.load.after.Tie as tie
@@ -8,7 +9,7 @@ is-refused-requires : tie.Need-is-refused-requires
 is-refused-requires c κs = search needs
 
 returns : tie.Need-returns
-returns c = (search (turned-away, needs), λ f. f)
+returns c = and-keeps _ _ _ (c .before .before .args .a) (search (turned-away, needs)) (λ f. f)
 
 update-requires : tie.Need-update-requires
 update-requires c κs = search needs
@@ -17,7 +18,7 @@ changed-requires : tie.Need-changed-requires
 changed-requires c κs = search needs
 
 returns-2 : tie.Need-returns-2
-returns-2 c = search (made, made-form, needs)
+returns-2 c = and-keeps _ _ _ (c .before .before .before .before .args .a) (search (made, needs)) (search (made-form, needs))
 
 pub after-spec : {M : Type 1} → statement M
 after-spec =

@@ -1,5 +1,6 @@
 -- `map::after` meets its contract.
 use Rattle.setting_up.proofs.map.Laws.{turned-away, with-key, with-key-form}
+use Rattle.promises.proofs.Chosen.{and-keeps}
 use borrow.Author.Needs.{needs}
 use Rattle.setting_up.proofs.map.after.Statement.{statement}
 use Rattle.setting_up.proofs.map.after.Tie as tie
@@ -8,7 +9,7 @@ is-refused-requires : tie.Need-is-refused-requires
 is-refused-requires c κs = search needs
 
 returns : tie.Need-returns
-returns c = (search (turned-away, needs), λ f. f)
+returns c = and-keeps _ _ _ (c .before .before .args .a) (search (turned-away, needs)) (λ f. f)
 
 cast-index : tie.Need-cast-index
 cast-index c = search needs
@@ -38,14 +39,14 @@ returns-2 : tie.Need-returns-2
 returns-2 c =
     let s = c .before .before .before .before .before .before .before in
     let x = s .args in
-    let w = s .fits in (
-      with-key (x .p) (x .key) (x .count) (x .d1) (x .f1) (x .d2) (x .f2) (x .d3) (x .f3) (x .d4) (x .f4) (x .a)
-          _ (c .before .before .before .before .before .before .is-refused .ensures) (c .before .before .before .before .before .if1 .left)
-          (w .key) (w .count) (w .d1) (w .f1) (w .d2) (w .f2) (w .d3) (w .f3) (w .d4) (w .f4)
-          _ (c .before .before .before .before .index .ensures) _ (c .before .before .before .of .ensures .1)
-          _ (c .before .before .index2 .ensures) _ (c .before .key .ensures .0) _ (c .with .ensures .0),
-      with-key-form (x .p) _ _ (c .with .ensures .1) (c .before .key .ensures .1),
-    )
+    let w = s .fits in
+    and-keeps _ _ _ (x .a)
+    (with-key (x .p) (x .key) (x .count) (x .d1) (x .f1) (x .d2) (x .f2) (x .d3) (x .f3) (x .d4) (x .f4) (x .a)
+    _ (c .before .before .before .before .before .before .is-refused .ensures) (c .before .before .before .before .before .if1 .left)
+    (w .key) (w .count) (w .d1) (w .f1) (w .d2) (w .f2) (w .d3) (w .f3) (w .d4) (w .f4)
+    _ (c .before .before .before .before .index .ensures) _ (c .before .before .before .of .ensures .1)
+    _ (c .before .before .index2 .ensures) _ (c .before .key .ensures .0) _ (c .with .ensures .0))
+    (with-key-form (x .p) _ _ (c .with .ensures .1) (c .before .key .ensures .1))
 
 pub after-spec : {M : Type 1} → statement M
 after-spec =

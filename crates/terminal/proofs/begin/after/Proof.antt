@@ -1,6 +1,7 @@
 -- `begin::after` meets its contract.
 use Rattle.terminal.proofs.begin.Laws.{not-spent, opens, opens-form}
 use Rattle.promises.proofs.Leaving.{turned-away}
+use Rattle.promises.proofs.Chosen.{and-keeps}
 use borrow.Author.Needs.{needs}
 use Rattle.terminal.proofs.begin.after.Statement.{statement}
 use Rattle.terminal.proofs.begin.after.Tie as tie
@@ -9,10 +10,10 @@ is-refused-requires : tie.Need-is-refused-requires
 is-refused-requires c κs = search needs
 
 returns : tie.Need-returns
-returns c = search (turned-away, needs)
+returns c = and-keeps _ _ _ (c .before .before .args .a) (search (turned-away, needs)) (λ f. f)
 
 returns-2 : tie.Need-returns-2
-returns-2 c = search (not-spent, needs)
+returns-2 c = and-keeps _ _ _ (c .before .before .before .args .a) (search (not-spent, needs)) (λ f. f)
 
 cast-begun : tie.Need-cast-begun
 cast-begun c = search needs
@@ -24,7 +25,7 @@ add-p : tie.Need-add-p
 add-p c = search needs
 
 returns-3 : tie.Need-returns-3
-returns-3 c = search (opens, opens-form, needs)
+returns-3 c = and-keeps _ _ _ (c .before .before .before .before .args .a) (search (opens, needs)) (search (opens-form, needs))
 
 pub after-spec : {M : Type 1} → statement M
 after-spec =
