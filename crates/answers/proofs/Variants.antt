@@ -22,7 +22,7 @@ abbrev others : List ℕ
 others = 0 ∷ 1 ∷ 4 ∷ 5 ∷ 6 ∷ 7 ∷ 8 ∷ 9 ∷ 10 ∷ 11 ∷ 12 ∷ 13 ∷ 14 ∷ 15 ∷ 16 ∷ 17 ∷ 18 ∷ 19 ∷ 20 ∷ 21 ∷ 22 ∷ []
 
 abbrev told : List ℕ
-told = 1 ∷ 2 ∷ 3 ∷ 4 ∷ 5 ∷ 6 ∷ 7 ∷ 8 ∷ 9 ∷ 10 ∷ []
+told = 1 ∷ 2 ∷ 3 ∷ 4 ∷ 5 ∷ 6 ∷ 7 ∷ 8 ∷ 9 ∷ 10 ∷ 11 ∷ []
 
 pub ends : (r : Refusal) → OneOf endings (tagOf r-type r) → true ≡ endsSession (viewRefusal r)
 ends refusal.OutOfRange h = absurd (miss endings 0 tt h)
@@ -86,6 +86,7 @@ refused-not (answer.Taken n) h = refl
 refused-not (answer.Applied r) h = refl
 refused-not (answer.Deleted b) h = refl
 refused-not (answer.Swept n) h = refl
+refused-not (answer.Reported a b c) h = refl
 
 pub fine-stays : (a : C.Answer) → false ≡ isRefused a → false ≡ isEnding a
 fine-stays (C.refused r) h = absurd (true≢false (sym h))

@@ -12,7 +12,7 @@ use Rattle.answers.specs.declared.Mark.the-variants as mark
 use Rattle.answers.specs.declared.Reply.{Reply}
 use Rattle.answers.specs.declared.Reply.the-variants as reply
 use Rattle.answers.specs.declared.Answer.{Answer}
-use Rattle.answers.specs.declared.Answer.the-variants.{Refused, Done, Begun, Read, Changed, Committed, Advanced, Taken, Applied, Deleted, Swept}
+use Rattle.answers.specs.declared.Answer.the-variants.{Refused, Done, Begun, Read, Changed, Committed, Advanced, Taken, Applied, Deleted, Swept, Reported}
 
 abbrev pub viewRefusal : Refusal → R.Refusal
 viewRefusal OutOfRange = R.outOfRange
@@ -62,6 +62,7 @@ viewAnswer (Taken n) = C.fine (n ∷ [])
 viewAnswer (Applied r) = C.fine (C.replyNumber (viewReply r) ∷ [])
 viewAnswer (Deleted b) = C.fine (bit b ∷ [])
 viewAnswer (Swept n) = C.fine (n ∷ [])
+viewAnswer (Reported a b c) = C.fine (a ∷ b ∷ c ∷ [])
 
 abbrev pub isRefused : C.Answer → Bool
 isRefused (C.refused r) = true

@@ -63,6 +63,8 @@ pub enum Answer {
     Deleted(bool),
     // the rows that were removed
     Swept(u8),
+    // the documents held shared, those held exclusively, the changes
+    Reported(u8, u8, u8),
 }
 
 impl Answer {
