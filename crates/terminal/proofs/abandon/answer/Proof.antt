@@ -1,5 +1,6 @@
 -- `abandon::answer` meets its contract.
-use Rattle.terminal.proofs.abandon.Laws.{no-slot, was-doomed, abandons}
+use Rattle.terminal.proofs.abandon.Laws.{asks, abandons}
+use Rattle.ending.proofs.Standing.{no-slot, was-doomed, stands}
 use borrow.Author.Needs.{needs}
 use Rattle.terminal.proofs.abandon.answer.Statement.{statement}
 use Rattle.terminal.proofs.abandon.answer.Tie as tie
@@ -11,7 +12,7 @@ has-requires : tie.Need-has-requires
 has-requires c κs = search needs
 
 returns : tie.Need-returns
-returns c = search (no-slot, needs)
+returns c = search (no-slot asks, needs)
 
 session-requires-2 : tie.Need-session-requires-2
 session-requires-2 c κs = search needs
@@ -20,10 +21,10 @@ is-doomed-requires : tie.Need-is-doomed-requires
 is-doomed-requires c κs = search needs
 
 returns-2 : tie.Need-returns-2
-returns-2 c = search (was-doomed, needs)
+returns-2 c = search (was-doomed asks, needs)
 
 returns-3 : tie.Need-returns-3
-returns-3 c = search (abandons, needs)
+returns-3 c = search (abandons, stands asks, needs)
 
 pub answer-spec : {M : Type 1} → statement M
 answer-spec =
