@@ -1,0 +1,49 @@
+-- What report asks, answers and leaves.
+use mathlib.Core.Path.{_≡_, refl, sym, _∙_, ap}
+use mathlib.Core.Bool.{Bool, false}
+use mathlib.Core.Option.{none}
+use mathlib.Core.List.{List, [], _∷_}
+use Prim.Native.Nat.{ℕ}
+use lib.IntN.{ℤ}
+use lib.ListN.{length}
+use Rattle.rules.specs.Refusals.{first}
+use Rattle.rules.specs.Values.{natOf}
+use Rattle.rules.specs.Tables.{documents}
+use Rattle.rules.specs.Tables as M
+use Rattle.rules.specs.Calls.{Answer, Report, fine}
+use Rattle.rules.specs.Conditions.{conditions}
+use Rattle.rules.specs.Step.{accepted, count, heldShared, heldExclusive}
+use Rattle.rules.proofs.Laws.{byCase}
+use Rattle.changes.specs.View.{viewChanges}
+use Rattle.session.specs.View.{viewSession}
+use Rattle.session.specs.declared.Session.{Session}
+use Rattle.sessions.specs.View.{viewSessions}
+use Rattle.plant.specs.View.{viewPlant}
+use Rattle.plant.specs.declared.Plant.{Plant}
+use Rattle.answers.specs.View.{viewAnswer, isRefused, isEnding}
+use Rattle.answers.specs.declared.Answer as A
+use Rattle.promises.specs.Promise.{chosen, result, Leaves}
+use Rattle.promises.proofs.Telling.{accepts, none-held, left-accepted, left-stays}
+use Rattle.ending.proofs.Standing.{Asks}
+
+pub asks : Asks Report (λ z p. [])
+unfolding conditions
+asks = record { first-two = λ z lent p. refl }
+
+told : M.Session → Answer
+told s = fine (count (heldShared s) documents ∷ count (heldExclusive s) documents ∷ length (s .changes) ∷ [])
+
+pub reports : (p : Plant) (z : ℤ) (lent : List ℤ) (s : Session) (x y n : ℕ)
+    → x ≡ count (heldShared (viewSession s)) documents → y ≡ count (heldExclusive (viewSession s)) documents → n ≡ length (viewChanges (s .changes))
+    → M.session (natOf z) (viewSessions (p .sessions)) ≡ viewSession s → first (conditions (Report z) lent (viewPlant p)) ≡ none
+    → fine (x ∷ y ∷ n ∷ []) ≡ result (Report z) lent p .answer
+unfolding viewPlant viewSession accepted told
+reports p z lent s x y n ex ey en es f = rw (ex, ey, en) refl ∙ ap told (sym es) ∙ accepts (Report z) lent (chosen (viewPlant p)) (viewPlant p) f
+
+-- accepted or not, it ends only a session that was doomed
+pub leaves : (p : Plant) (z : ℤ) (a : A.Answer) (e : Bool) → e ≡ isEnding (viewAnswer a) → e ≡ false → Leaves (Report z) p a p
+unfolding accepted
+leaves p z a e ee h k lent ea =
+    byCase (isRefused (viewAnswer a))
+    (λ r. left-stays (Report z) lent (chosen (viewPlant p)) (viewPlant p) (viewAnswer a) ea r (sym ee ∙ h))
+    (λ r. left-accepted (Report z) lent (chosen (viewPlant p)) (viewPlant p) (none-held (Report z) lent (chosen (viewPlant p)) (viewPlant p) (viewAnswer a) ea r))

@@ -1,0 +1,2 @@
+-- Laws of report.
+mod Laws
