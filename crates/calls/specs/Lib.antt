@@ -1,0 +1,2 @@
+-- Calls as the rules see them.
+pub mod View

@@ -1,0 +1,5 @@
+-- The line format.
+pub mod Bytes
+pub mod Columns
+pub mod Lines
+pub mod Serving

@@ -1,0 +1,72 @@
+-- What a line does, what an input does, and how an input is cut into lines.
+use Prim.Native.Nat.{_*_, ℕ}
+use mathlib.Core.Path.{_≡_}
+use mathlib.Core.Bool.{cond}
+use mathlib.Core.List.{List, [], _++_, _∷_}
+use lib.ListN.{length, replicate, take}
+use lib.Dec.{eqb}
+use lib.IntN.{pos, ℤ}
+use Rattle.rules.specs.Limits.{placeLimit, wordsPerField}
+use Rattle.rules.specs.Values.{natOf}
+use Rattle.rules.specs.Tables.{Plant}
+use Rattle.rules.specs.Calls.{Call, Load, Map, Begin, Read, Change, Commit, Abandon, Advance, Take, Apply, Delete, Cut, Sweep, Store, Report, Answer, refused, fine, Result, Pick}
+use Rattle.rules.specs.Step.{step, Allowed}
+use Rattle.format.specs.Bytes.{newline}
+use Rattle.format.specs.Lines.{Said, says, faulty, said, answerLine}
+
+-- ── a line ──
+-- the bytes answered, and the plant left
+pub record Served : Type 0 where
+  pub bytes : List ℕ
+  pub plant : Plant
+
+-- a line lends the words of the longest key
+abbrev pub lentWords : List ℤ
+lentWords = replicate (wordsPerField * placeLimit) (pos 0)
+
+-- the places that a read shows, each by eight words; other calls show none
+abbrev pub placesShown : Call → Plant → ℕ
+placesShown (Load d f k v) p = 0
+placesShown (Map k n m) p = 0
+placesShown Begin p = 0
+placesShown (Read s k) p = length (p .keys (natOf k))
+placesShown (Change s d f k v) p = 0
+placesShown (Commit s) p = 0
+placesShown (Abandon s) p = 0
+placesShown (Advance n) p = 0
+placesShown (Take w) p = 0
+placesShown (Apply w fate) p = 0
+placesShown (Delete w) p = 0
+placesShown (Cut w) p = 0
+placesShown Sweep p = 0
+placesShown (Store n) p = 0
+placesShown (Report s) p = 0
+
+abbrev pub ended : List ℕ → List ℕ
+ended l = l ++ (newline ∷ [])
+
+abbrev pub replied : Call → Plant → Result → Served
+replied c p r = record { bytes = ended (answerLine (r .answer) (take (wordsPerField * placesShown c p) (r .words))); plant = r .plant }
+
+abbrev pub performed : Said → Pick → Plant → Served
+performed (says c) pick p = replied c p (step c lentWords pick p)
+performed (faulty r) pick p = record { bytes = ended (answerLine (refused r) []); plant = p }
+
+unfoldable pub serve : List ℕ → Pick → Plant → Served
+serve l pick p = performed (said l) pick p
+
+-- ── an input ──
+abbrev pub begun : ℕ → List (List ℕ) → List (List ℕ)
+begun b [] = (b ∷ []) ∷ []
+begun b (l ∷ ls) = (b ∷ l) ∷ ls
+
+-- byte 10 ends a line, or the end of input; no line follows a last byte 10
+abbrev pub linesOf : List ℕ → List (List ℕ)
+linesOf [] = []
+linesOf (b ∷ l) = cond (eqb b newline) ([] ∷ linesOf l) (begun b (linesOf l))
+
+-- lines served one after the other, each with an allowed choice at the plant that it meets
+abbrev pub Serves : List (List ℕ) → Plant → List ℕ → Plant → Type 0
+Serves [] p out q = (out ≡ []) × (q ≡ p)
+Serves (l ∷ ls) p out q =
+    (pick : Pick) × (Allowed pick p × ((rest : List ℕ) × ((out ≡ (serve l pick p) .bytes ++ rest) × Serves ls ((serve l pick p) .plant) rest q)))

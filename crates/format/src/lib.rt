@@ -1,0 +1,1 @@
+// The line format: definitions in `specs/` alone, no code.
