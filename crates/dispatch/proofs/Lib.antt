@@ -1,0 +1,2 @@
+-- The proofs of both functions.
+mod Laws

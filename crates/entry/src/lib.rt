@@ -1,0 +1,21 @@
+// The one entry: any call, on the plant, with words lent to it.
+ghost use mathlib.Core.Path.{_≡_};
+ghost use mathlib.Core.Bool.{true};
+ghost use Rattle.plant.specs.View.{keptPlant};
+ghost use Rattle.entry.specs.Ran.{Ran};
+use answers::Answer;
+use calls::Call;
+use plant::Plant;
+
+pub struct Outcome {
+    pub answer: Answer,
+    pub plant: Plant,
+}
+
+pub fn run(p: Plant, c: Call, words: &mut [i32]) -> Outcome
+    ensures { λ r. ⌜ (keptPlant p ≡ true → Ran c (now (words .entry)) p (r .answer) (now (words .exit)) (r .plant)) ⌝ }
+{
+    let answer = dispatch::answer(p, c, words);
+    let plant = dispatch::after(p, c, answer);
+    Outcome { answer, plant }
+}
