@@ -1,5 +1,5 @@
 -- The bytes and widths of the line format, each by its name.
-use Prim.Native.Nat.{ℕ}
+use Prim.Native.Nat.{_*_, _+_, ℕ}
 
 abbrev pub newline : ℕ
 newline = 10
@@ -27,3 +27,11 @@ callWidth = 2
 -- columns of every other number
 abbrev pub numberWidth : ℕ
 numberWidth = 12
+
+-- numbers of the call that has most, map
+abbrev pub mostNumbers : ℕ
+mostNumbers = 10
+
+-- bytes of a line that tell what it says: those of the longest line in form, and one more, which tells that a line is too long
+abbrev pub lineLimit : ℕ
+lineLimit = callWidth + mostNumbers * numberWidth + 1

@@ -1,0 +1,2 @@
+-- Laws of the line format.
+pub mod Short
