@@ -1,2 +1,3 @@
 -- Laws of the line format.
 pub mod Short
+pub mod Cutting

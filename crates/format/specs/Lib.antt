@@ -1,5 +1,6 @@
 -- The line format.
 pub mod Bytes
 pub mod Columns
+pub mod Feeding
 pub mod Lines
 pub mod Serving
