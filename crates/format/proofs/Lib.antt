@@ -1,3 +1,4 @@
 -- Laws of the line format.
 pub mod Short
 pub mod Cutting
+pub mod Serving
