@@ -3,3 +3,4 @@ pub mod Chosen
 pub mod Telling
 pub mod Leaving
 pub mod Numbers
+pub mod Worker

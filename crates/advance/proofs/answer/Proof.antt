@@ -1,0 +1,23 @@
+-- `answer` meets its contract.
+use Rattle.advance.proofs.Laws.{out-of-range, clock-ends, tick-told}
+use borrow.Author.Needs.{needs}
+use Rattle.advance.proofs.answer.Statement.{statement}
+use Rattle.advance.proofs.answer.Tie as tie
+
+ticks-of-requires : tie.Need-ticks-of-requires
+ticks-of-requires c κs = search needs
+
+returns : tie.Need-returns
+returns c = search (out-of-range, needs)
+
+later-requires : tie.Need-later-requires
+later-requires c κs = search needs
+
+returns-2 : tie.Need-returns-2
+returns-2 c = search (clock-ends, needs)
+
+returns-3 : tie.Need-returns-3
+returns-3 c = search (tick-told, needs)
+
+pub answer-spec : {M : Type 1} → statement M
+answer-spec = tie.close (tie.spec ticks-of-requires returns later-requires returns-2 returns-3)

@@ -1,2 +1,0 @@
--- Laws of the workers' calls.
-mod Worker

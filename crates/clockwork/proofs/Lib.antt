@@ -1,1 +1,0 @@
--- Laws of the calls of the clock and of the way to the store.

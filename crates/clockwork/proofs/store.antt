@@ -1,2 +1,0 @@
--- Laws of store.
-mod Laws

@@ -1,0 +1,87 @@
+-- What delete answers and leaves, one law for each way out.
+use mathlib.Core.Path.{_≡_, refl, sym, _∙_}
+use mathlib.Core.Bool.{Bool, true, false, cond, not, _&&_}
+use mathlib.Core.List.{List, [], _∷_}
+use Prim.Native.Nat.{ℕ, _≤_, _<_}
+use lib.Dec.{ltb}
+use lib.IntN.{ℤ}
+use mir.Syntax.{w64}
+use mir.Val.{SFits}
+use borrow.Author.Tests.{not-false}
+use Rattle.rules.specs.Limits.{workerCount}
+use Rattle.rules.specs.Lists.{bit, override}
+use Rattle.rules.specs.Values.{below, natOf}
+use Rattle.rules.specs.Refusals.{outOfRange, wrongHand, _⇒_}
+use Rattle.rules.specs.Tables as M
+use Rattle.rules.specs.Tables.{empty, full, replied, handed, isBuffered, unbuffer}
+use Rattle.rules.specs.Calls.{Delete, refused, fine}
+use Rattle.rules.specs.Calls as C
+use Rattle.rules.specs.Conditions.{conditions}
+use Rattle.rules.specs.Effects.{ended, deleted}
+use Rattle.rules.specs.Step.{accepted}
+use Rattle.rules.proofs.Laws.{not-met}
+use Rattle.answers.specs.View.{viewAnswer, isRefused}
+use Rattle.answers.specs.declared.Answer.{Answer}
+use Rattle.promises.specs.Promise.{chosen, result, Leaves}
+use Rattle.promises.proofs.Telling.{refuses, accepts, none-held, left-accepted, left-refused}
+use Rattle.arguments.proofs.Numbers.{held, outside, inside, index-is, index-lt}
+use Rattle.workers.specs.View.{viewHand, viewHands, viewQueue}
+use Rattle.workers.specs.Form.{handForm, handsForm, queueForm}
+use Rattle.workers.specs.declared.Hand.{Hand}
+use Rattle.workers.specs.declared.Hands.{Hands}
+use Rattle.workers.specs.declared.Queue.{Queue}
+use Rattle.buffer.specs.View.{viewBuffer}
+use Rattle.buffer.specs.Form.{bufferForm}
+use Rattle.buffer.specs.declared.Buffer.{Buffer}
+use Rattle.plant.specs.View.{viewPlant, keptPlant, plantForm}
+use Rattle.plant.specs.declared.Plant.{Plant}
+use Rattle.promises.proofs.Worker.{hand-at, left-form}
+
+-- only a full hand has a reply
+full-replied : (h : M.Hand) → full h && replied h ≡ replied h
+full-replied M.empty = refl
+full-replied (M.holds n r) = refl
+
+module _ (p : Plant) (z : ℤ) (fits : SFits w64 z) (w : ℕ) (e : w ≡ cond (below (held z) workerCount) (natOf (held z)) workerCount) (lent : List ℤ) (kept : keptPlant p ≡ true) where
+  abbrev Answered : C.Answer → Type 0
+  Answered a = a ≡ result (Delete z) lent p .answer
+
+  pub out-of-range : workerCount ≤ w → Answered (refused outOfRange)
+  unfolding conditions _⇒_
+  out-of-range l = refuses (Delete z) lent (chosen (viewPlant p)) (viewPlant p) _ (rw (outside z fits workerCount w e l) refl)
+
+  module _ (l : w < workerCount) (h : Hand) (eh : viewHand h ≡ viewHands (p .hands) w) (f : Bool) (ef : f ≡ replied (viewHand h)) where
+    hand-is : viewHands (p .hands) (natOf z) ≡ viewHand h
+    hand-is = hand-at (p .hands) z fits w e l h eh
+
+    pub no-reply : not f ≡ true → Answered (refused wrongHand)
+    unfolding conditions viewPlant _⇒_
+    no-reply g = refuses (Delete z) lent (chosen (viewPlant p)) (viewPlant p) _ (rw (inside z fits workerCount w e l, hand-is, full-replied (viewHand h), sym ef, g) refl)
+
+    pub buffered-told : not f ≡ false → (n : ℕ) → n ≡ handed (viewHand h) → (b : Bool) → b ≡ isBuffered n (viewBuffer (p .buffer)) → Answered (fine (bit b ∷ []))
+    unfolding conditions viewPlant _⇒_ accepted
+    buffered-told g n en b eb =
+        rw (eb, en, sym hand-is) (accepts (Delete z) lent (chosen (viewPlant p)) (viewPlant p) (rw (inside z fits workerCount w e l, hand-is, full-replied (viewHand h), sym ef, g) refl))
+
+-- ── the plant left ──
+module _ (p : Plant) (z : ℤ) (a : Answer) (b : Bool) (eb : b ≡ isRefused (viewAnswer a)) where
+  pub turned-away : b ≡ true → Leaves (Delete z) p a p
+  turned-away h kept lent ea = left-refused (Delete z) lent (chosen (viewPlant p)) (viewPlant p) (viewAnswer a) ea (sym eb ∙ h) refl
+
+  module _ (h : b ≡ false) (fits : SFits w64 z) (w : ℕ) (e : w ≡ cond (below (held z) workerCount) (natOf (held z)) workerCount)
+      (old : Hand) (eo : viewHand old ≡ viewHands (p .hands) w) (n : ℕ) (en : n ≡ handed (viewHand old)) (hand : Hand) (eh : viewHand hand ≡ empty)
+      (bs : Buffer) (ebs : viewBuffer bs ≡ unbuffer n (viewBuffer (p .buffer)))
+      (hs : Hands) (ehs : viewHands hs ≡ cond (ltb w workerCount) (override (viewHands (p .hands)) w (viewHand hand)) (viewHands (p .hands)))
+      (q : Queue) (eq : viewQueue q ≡ ended w (viewQueue (p .queue))) where
+    pub unbuffered : Leaves (Delete z) p a (record { store = p .store; keys = p .keys; cache = p .cache; sessions = p .sessions; buffer = bs; rows = p .rows; hands = hs; queue = q; clock = p .clock; near = p .near; next = p .next })
+    unfolding conditions viewPlant accepted deleted
+    unbuffered kept lent ea =
+        let m = none-held (Delete z) lent (chosen (viewPlant p)) (viewPlant p) (viewAnswer a) ea (sym eb ∙ h) in
+        let g : below z workerCount ≡ true = not-false (below z workerCount) (not-met _ outOfRange (m .0)) in
+        rw (ebs, en, eo, ehs, index-lt z fits workerCount w e g, eh, eq, sym (index-is z fits workerCount w e g)) refl
+        ∙ left-accepted (Delete z) lent (chosen (viewPlant p)) (viewPlant p) m
+
+    pub unbuffered-form : (bufferForm (p .buffer) ≡ true → bufferForm bs ≡ true) → (handsForm (p .hands) ≡ true → handForm hand ≡ true → handsForm hs ≡ true) → handForm hand ≡ true
+        → (queueForm (p .queue) ≡ true → queueForm q ≡ true) → plantForm p ≡ true
+        → plantForm (record { store = p .store; keys = p .keys; cache = p .cache; sessions = p .sessions; buffer = bs; rows = p .rows; hands = hs; queue = q; clock = p .clock; near = p .near; next = p .next }) ≡ true
+    unbuffered-form fb fh ff fq = left-form p bs hs q fb (λ f. fh f ff) fq

@@ -1,1 +1,0 @@
--- Laws of the calls before the first session.

@@ -1,1 +1,0 @@
--- Laws of the calls that open and close a session.
