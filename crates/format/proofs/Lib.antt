@@ -2,3 +2,4 @@
 pub mod Short
 pub mod Cutting
 pub mod Serving
+pub mod Feeding

@@ -24,3 +24,9 @@ serves-short [] p q out s = s
 serves-short (l ∷ ls) p q out (pick, (a, (rest, (e, s)))) =
     let c = short-serve l pick p in
     (pick, (a, (rest, (e ∙ ap (λ v. v .bytes ++ rest) c, serves-short ls (serve l pick p .plant) q rest (rw c at s)))))
+
+pub serves-cut : (ls : List (List ℕ)) (p q : Plant) (out : List ℕ) → Serves ls p out q → Serves (map (take lineLimit) ls) p out q
+serves-cut [] p q out s = s
+serves-cut (l ∷ ls) p q out (pick, (a, (rest, (e, s)))) =
+    let c = sym (short-serve l pick p) in
+    (pick, (a, (rest, (e ∙ ap (λ v. v .bytes ++ rest) c, serves-cut ls (serve (take lineLimit l) pick p .plant) q rest (rw c at s)))))

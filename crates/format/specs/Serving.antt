@@ -6,8 +6,8 @@ use mathlib.Core.List.{List, [], _++_, _∷_}
 use lib.ListN.{length, replicate, take}
 use lib.Dec.{eqb}
 use lib.IntN.{pos, ℤ}
-use Rattle.rules.specs.Limits.{placeLimit, wordsPerField}
-use Rattle.rules.specs.Values.{natOf}
+use Rattle.rules.specs.Limits.{keyCount, placeLimit, wordsPerField}
+use Rattle.rules.specs.Values.{below, natOf}
 use Rattle.rules.specs.Tables.{Plant}
 use Rattle.rules.specs.Calls.{Call, Load, Map, Begin, Read, Change, Commit, Abandon, Advance, Take, Apply, Delete, Cut, Sweep, Store, Report, Answer, refused, fine, Result, Pick}
 use Rattle.rules.specs.Step.{step, Allowed}
@@ -29,7 +29,7 @@ abbrev pub placesShown : Call → Plant → ℕ
 placesShown (Load d f k v) p = 0
 placesShown (Map k n m) p = 0
 placesShown Begin p = 0
-placesShown (Read s k) p = length (p .keys (natOf k))
+placesShown (Read s k) p = cond (below k keyCount) (length (p .keys (natOf k))) 0
 placesShown (Change s d f k v) p = 0
 placesShown (Commit s) p = 0
 placesShown (Abandon s) p = 0

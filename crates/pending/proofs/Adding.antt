@@ -11,12 +11,6 @@ use lib.Dec.{leb}
 use borrow.Author.Tests.{le-leb, leb-false, leb-true}
 use Rattle.rules.proofs.Laws.{byCase}
 
--- what is kept of a line and of more is what would be kept had the line been kept whole
-pub take-front : {A : Type 0} (k : ℕ) (u v : List A) → take k (take k u ++ v) ≡ take k (u ++ v)
-take-front zero u v = refl
-take-front (suc k) [] v = refl
-take-front (suc k) (a ∷ u) v = ap (λ l. a ∷ l) (take-front k u v)
-
 module _ {A : Type 0} where
   take-min : (m : ℕ) (l : List A) → take (min m (length l)) l ≡ take m l
   take-min m l =
