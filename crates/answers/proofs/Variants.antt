@@ -1,8 +1,15 @@
 -- What the arms of a match on an enum know of it: the numbers of its variants.
-use mathlib.Core.Path.{_≡_, refl, sym}
+use mathlib.Core.Path.{_≡_, refl, sym, _∙_, ap}
 use mathlib.Core.Bool.{true, false, true≢false}
-use Prim.Native.Nat.{ℕ}
+use Prim.Native.Nat.{ℕ, _<_, _^_}
 use mathlib.Core.List.{List, [], _∷_}
+use native.Mathlib.Omega.{arith}
+use lib.Dec.{T, ltb, ltb→lt}
+use lib.IntN.{ℤ, pos, natAbs}
+use lib.Signed.{nonNeg}
+use mir.Syntax.{w8, w64}
+use mir.Val.{Fits, toZ}
+use mir.Facts.{toZ-pos}
 use types.Run.{OneOf, miss}
 use denote.Enum.Declared.{tagOf}
 use Rattle.rules.specs.Refusals.{endsSession}
@@ -91,3 +98,22 @@ refused-not (answer.Reported a b c) h = refl
 pub fine-stays : (a : C.Answer) → false ≡ isRefused a → false ≡ isEnding a
 fine-stays (C.refused r) h = absurd (true≢false (sym h))
 fine-stays (C.fine ns) h = refl
+
+-- ── the number m of a variant, in a local of 64 bits ──
+pub record Numbered (m n : ℕ) : Type 0 where
+  pub is : n ≡ m
+  pub small : n < 2 ^ 8
+
+-- what an arm that knows the variant v tells
+pub numbered : {A : Type 0} (number : A → ℕ) {a v : A} {n : ℕ} → a ≡ v → n ≡ number v → T (ltb (number v) (2 ^ 8)) → Numbered (number a) n
+numbered number e h t = record { is = h ∙ ap number (sym e); small = rw h (ltb→lt _ _ t) }
+
+module _ {m n : ℕ} (k : Numbered m n) where
+  read : toZ w64 n ≡ pos n
+  read = let s = k .small in toZ-pos w64 (omega arith)
+
+  pub number-casts : T (nonNeg (toZ w64 n)) × Fits w8 (natAbs (toZ w64 n))
+  number-casts = rw read (tt, record { fits = k .small })
+
+  pub number-is : natAbs (toZ w64 n) ≡ m
+  number-is = ap natAbs read ∙ k .is

@@ -1,32 +1,33 @@
-// What a call answers: a refusal, or what it tells. `specs/View` has the paper's numbers of each.
+// What a call answers: a refusal, or what it tells. `number` has the paper's numbers of refusals, marks and replies.
 ghost use mathlib.Core.Path.{_≡_};
-ghost use Rattle.rules.specs.Refusals.{endsSession};
-ghost use Rattle.answers.specs.View.{viewRefusal, viewAnswer, isRefused, isEnding};
+ghost use Rattle.rules.specs.Refusals.{refusalNumber, endsSession};
+ghost use Rattle.rules.specs.Calls.{markNumber, replyNumber};
+ghost use Rattle.answers.specs.View.{viewRefusal, viewMark, viewReply, viewAnswer, isRefused, isEnding};
 
 pub enum Refusal {
-    OutOfRange,
-    NoSlot,
-    WasDoomed,
-    ExclusiveElsewhere,
-    ChangesFull,
-    WrongKind,
-    SeventhMember,
-    SumTooLarge,
-    KeyUndefined,
-    SlotsFull,
-    NumbersSpent,
-    SessionBegun,
-    KeyDefined,
-    BadPlaces,
-    BufferFull,
-    QueueLeased,
-    WrongHand,
-    NothingBuffered,
-    RowsFull,
-    StoreAway,
-    ClockEnd,
-    FewWords,
-    BadLine,
+    OutOfRange = 1,
+    NoSlot = 2,
+    WasDoomed = 3,
+    ExclusiveElsewhere = 4,
+    ChangesFull = 5,
+    WrongKind = 6,
+    SeventhMember = 7,
+    SumTooLarge = 8,
+    KeyUndefined = 9,
+    SlotsFull = 10,
+    NumbersSpent = 11,
+    SessionBegun = 12,
+    KeyDefined = 13,
+    BadPlaces = 14,
+    BufferFull = 15,
+    QueueLeased = 16,
+    WrongHand = 17,
+    NothingBuffered = 18,
+    RowsFull = 19,
+    StoreAway = 20,
+    ClockEnd = 21,
+    FewWords = 22,
+    BadLine = 23,
 }
 
 // Where a read's fields came from: the cache; worked out and cached now; worked out, with a change of the session's own.
@@ -91,6 +92,12 @@ impl Answer {
 }
 
 impl Refusal {
+    pub fn number(self) -> u8
+        ensures { λ r. ⌜ r ≡ refusalNumber (viewRefusal self) ⌝ }
+    {
+        self as u8
+    }
+
     // The session that met it ends.
     fn ends_session(self) -> bool
         ensures { λ r. ⌜ r ≡ endsSession (viewRefusal self) ⌝ }
@@ -98,6 +105,30 @@ impl Refusal {
         match self {
             Refusal::WasDoomed | Refusal::ExclusiveElsewhere => true,
             _ => false,
+        }
+    }
+}
+
+impl Mark {
+    pub fn number(self) -> u8
+        ensures { λ r. ⌜ r ≡ markNumber (viewMark self) ⌝ }
+    {
+        match self {
+            Mark::FromCache => 0,
+            Mark::CachedNow => 1,
+            Mark::OwnChange => 2,
+        }
+    }
+}
+
+impl Reply {
+    pub fn number(self) -> u8
+        ensures { λ r. ⌜ r ≡ replyNumber (viewReply self) ⌝ }
+    {
+        match self {
+            Reply::NoWord => 0,
+            Reply::Done => 1,
+            Reply::DoneBefore => 2,
         }
     }
 }

@@ -1,0 +1,3 @@
+-- Laws of columns.
+pub mod ColumnLaws
+mod WordLaws

@@ -1,0 +1,4 @@
+-- Laws of what is printed.
+pub mod LineLaws
+mod ToldLaws
+mod Written

@@ -1,0 +1,157 @@
+-- Columns one after the other, and the line that they make.
+use mathlib.Core.Path.{_≡_, refl, sym, _∙_, ap}
+use mathlib.Core.Bool.{true, false}
+use mathlib.Core.List.{List, [], _∷_, _++_, append-assoc, append-nil, map}
+use Prim.Native.Nat.{ℕ, _+_, _-_, _*_, _≤_, _<_, _^_}
+use native.Mathlib.Numerals.{add-one}
+use native.Mathlib.Omega.{arith}
+use lib.Dec.{leb}
+use lib.IntN.{ℤ, pos}
+use lib.ListN.{length, getD, take, drop, set, length-append, length-take, length-map, List·getD-map}
+use lib.Seq.{take-all, take-suc, length-take-le, getD-take}
+use lib.Signed.{mag}
+use mir.Syntax.{w32}
+use mir.Val.{toZ, ofZ}
+use mir.Facts.{toZ-ofZ}
+use borrow.Author.Needs.{sfits-of}
+use borrow.Author.Tests.{le-leb, lt-leb}
+use borrow.Rule.Slice.PartMut.{putMid}
+use Rattle.rules.specs.Refusals.{refusalNumber}
+use Rattle.rules.specs.Calls.{Answer, refused, fine}
+use Rattle.format.specs.Bytes.{newline, callWidth, numberWidth}
+use Rattle.format.specs.Columns.{isNegative, magnitude, column}
+use Rattle.format.specs.Lines.{columns, answerLine}
+use Rattle.format.specs.Serving.{ended}
+use Rattle.columns.specs.Printed.{printed}
+use Rattle.columns.proofs.ColumnLaws.{columns-long}
+use Rattle.printing.specs.Told.{refusalIn, numbersIn, wordsIn, Tells, Shows, taken}
+use Rattle.printing.specs.declared.Told.{Told}
+use Rattle.printing.proofs.Written.{Written, nothing, first, as-printed, long, on, byte}
+
+column-length : (z : ℤ) → length (column numberWidth z) ≡ numberWidth
+unfolding column
+column-length z = columns-long (isNegative z) numberWidth (magnitude z)
+
+pub columns-length : (zs : List ℤ) → length (columns zs) ≡ numberWidth * length zs
+columns-length [] = refl
+columns-length (z ∷ zs) = simp length-append (omega (arith, column-length z, columns-length zs))
+
+columns-last : (zs : List ℤ) (z : ℤ) → columns (zs ++ (z ∷ [])) ≡ columns zs ++ column numberWidth z
+columns-last [] z = append-nil (column numberWidth z)
+columns-last (x ∷ zs) z = ap (λ (l : List ℕ). column numberWidth x ++ l) (columns-last zs z) ∙ sym (append-assoc (column numberWidth x) (columns zs) (column numberWidth z))
+
+-- ── a loop that prints the n numbers zs ──
+pub record Printing (zs : List ℤ) (n : ℕ) (v vs : List ℕ) (i : ℕ) : Type 0 where
+  pub count : length zs ≡ n
+  pub room : numberWidth * n ≤ length v
+  pub at : i ≤ n
+  pub long : length vs ≡ length v
+  pub done : Written v (columns (take i zs)) vs
+
+pub print-start : (zs : List ℤ) (n : ℕ) (v : List ℕ) → length zs ≡ n → numberWidth * n ≤ length v → Printing zs n v v 0
+print-start zs n v l h = record { count = l; room = h; at = omega arith; long = refl; done = nothing }
+
+module _ {zs : List ℤ} {n : ℕ} {v vs : List ℕ} {i : ℕ} (inv : Printing zs n v vs i) where
+  here : numberWidth * i ≡ length (columns (take i zs))
+  here =
+      let a = inv .at in
+      let l = inv .count in
+      let t : length (take i zs) ≡ i = simp length-take (omega arith) in
+      omega (arith, columns-length (take i zs))
+
+  pub print-next : (d z : ℤ) (ys : List ℕ) → i < n → z ≡ getD zs i d → ys ≡ printed (column numberWidth z) (take (length vs - numberWidth * i) (drop (numberWidth * i) vs)) → Printing zs n v (putMid (numberWidth * i) (length vs - numberWidth * i) vs ys) (i + 1)
+  print-next d z ys h e p =
+      let l = inv .count in
+      let r = inv .room in
+      let c : columns (take (i + 1) zs) ≡ columns (take i zs) ++ column numberWidth z = rw (add-one i, take-suc zs i d (omega arith), ← e) (columns-last (take i zs) z) in
+      let w = on (inv .done) (numberWidth * i) here (column numberWidth z) ys (omega (arith, column-length z)) p in
+      record { count = l; room = r; at = omega arith; long = long w; done = rw c w }
+
+  pub print-end : n ≤ i → vs ≡ printed (columns zs) v
+  print-end h = as-printed (inv .done) ∙ ap (λ (l : List ℤ). printed (columns l) v) (take-all i zs (omega (arith, inv .count)))
+
+-- the first n of the numbers that an answer tells, and of the words that a read shows
+pub numbers-count : (ns : List ℕ) (n k : ℕ) → n ≤ k → length ns ≡ k → length (map pos (take n ns)) ≡ n
+numbers-count ns n k h l = length-map (take n ns) pos ∙ length-take-le n ns (omega arith)
+
+pub number-at : (ns : List ℕ) (n i : ℕ) → i < n → pos (getD ns i 0) ≡ getD (map pos (take n ns)) i (pos 0)
+number-at ns n i h = sym (List·getD-map pos (take n ns) i 0 ∙ ap pos (getD-take n ns i 0 h))
+
+pub words-count : (ws : List ℤ) (n : ℕ) → n ≤ length ws → length (take n ws) ≡ n
+words-count ws n h = length-take-le n ws h
+
+-- as a local holds it
+pub word-at : (ws : List ℤ) (n i : ℕ) → i < n → mag (getD ws i (pos 0)) < 2 ^ 31 → toZ w32 (ofZ w32 (getD ws i (pos 0))) ≡ getD (take n ws) i (pos 0)
+word-at ws n i h m = toZ-ofZ {w = w32} {z = getD ws i (pos 0)} (sfits-of m) ∙ sym (getD-take n ws i (pos 0) h)
+
+-- ── the line ──
+columns-append : (xs ys : List ℤ) → columns (xs ++ ys) ≡ columns xs ++ columns ys
+columns-append [] ys = refl
+columns-append (x ∷ xs) ys = ap (λ (l : List ℕ). column numberWidth x ++ l) (columns-append xs ys) ∙ sym (append-assoc (column numberWidth x) (columns xs) (columns ys))
+
+in-parts : (a : Answer) (ws : List ℤ) → answerLine a ws ≡ column callWidth (pos (refusalIn a)) ++ (columns (map pos (numbersIn a)) ++ columns (wordsIn a ws))
+unfolding answerLine
+in-parts (refused r) ws = sym (append-nil (column callWidth (pos (refusalNumber r))))
+in-parts (fine ns) ws = ap (λ (l : List ℕ). column callWidth (pos 0) ++ l) (columns-append (map pos ns) ws)
+
+refusal-length : (n : ℕ) → length (column callWidth (pos n)) ≡ callWidth
+unfolding column
+refusal-length n = columns-long false callWidth n
+
+module _ (a : Answer) (t : Told) (ws : List ℤ) (shown n : ℕ) (tells : Tells a t) (shows : Shows a ws shown n) where
+  abbrev line : List ℕ
+  line = ended (answerLine a (take shown ws))
+
+  abbrev refusal : List ℕ
+  refusal = column callWidth (pos (t .refusal))
+
+  abbrev numbers : List ℕ
+  numbers = columns (map pos (take (t .count) (t .numbers)))
+
+  abbrev words : List ℕ
+  words = columns (take n ws)
+
+  line-is : line ≡ ended ((refusal ++ numbers) ++ words)
+  line-is =
+      let p : answerLine a (take shown ws) ≡ (refusal ++ numbers) ++ words = in-parts a (take shown ws) ∙ rw (← tells .refusal, ← tells .numbers, ← shows .words) (sym (append-assoc refusal numbers words)) in
+      ap ended p
+
+  numbers-length : length numbers ≡ numberWidth * t .count
+  numbers-length =
+      let l : length (map pos (take (t .count) (t .numbers))) ≡ t .count = length-map (take (t .count) (t .numbers)) pos ∙ ap length (tells .numbers) ∙ sym (tells .count) in
+      omega (arith, columns-length (map pos (take (t .count) (t .numbers))))
+
+  words-length : length words ≡ numberWidth * n
+  words-length = omega (arith, columns-length (take n ws), words-count ws n (shows .few))
+
+  line-length : length line ≡ callWidth + numberWidth * t .count + numberWidth * n + 1
+  line-length = rw line-is (simp length-append (omega (arith, refusal-length (t .refusal), numbers-length, words-length)))
+
+  pub no-room : (v : List ℕ) → length v < callWidth + numberWidth * t .count + numberWidth * n + 1 → (v ≡ printed line v) × (0 ≡ taken line v)
+  unfolding printed taken
+  no-room v h = let q : leb (length line) (length v) ≡ false = lt-leb (length line) (length v) (rw line-length h) in (rw q refl, rw q refl)
+
+  abbrev at : ℕ
+  at = callWidth + numberWidth * t .count
+
+  -- each part is printed into a part lent on, and then byte 10
+  pub line-written : (v : List ℕ) → callWidth + numberWidth * t .count + numberWidth * n + 1 ≤ length v
+      → (vs ys zs : List ℕ) → vs ≡ printed refusal v → ys ≡ printed numbers (take (length vs - callWidth) (drop callWidth vs))
+      → zs ≡ printed words (take (length (putMid callWidth (length vs - callWidth) vs ys) - at) (drop at (putMid callWidth (length vs - callWidth) vs ys)))
+      → Written v (ended ((refusal ++ numbers) ++ words)) (set (putMid at (length (putMid callWidth (length vs - callWidth) vs ys) - at) (putMid callWidth (length vs - callWidth) vs ys) zs) (at + numberWidth * n) newline)
+  line-written v h vs ys zs p q r =
+      let l = refusal-length (t .refusal) in
+      let k = numbers-length in
+      let m = words-length in
+      let w₁ = first v refusal vs (omega arith) p in
+      let w₂ = on w₁ callWidth (sym l) numbers ys (omega arith) q in
+      let w₃ = on w₂ at (simp length-append (omega arith)) words zs (omega arith) r in
+      byte w₃ (at + numberWidth * n) (simp length-append (omega arith)) newline (omega arith)
+
+  pub line-printed : (v vs : List ℕ) → Written v (ended ((refusal ++ numbers) ++ words)) vs → (vs ≡ printed line v) × (at + numberWidth * n + 1 ≡ taken line v)
+  unfolding taken
+  line-printed v vs w =
+      let l = ap length line-is in
+      let r = w .room in
+      let h : length line ≤ length v = omega arith in
+      (as-printed w ∙ ap (λ (b : List ℕ). printed b v) (sym line-is), rw (le-leb (length line) (length v) h) (sym line-length))

@@ -1,0 +1,53 @@
+-- What an answer tells: by an arm that knows its variant, and by its words.
+use mathlib.Core.Path.{_≡_, refl, sym, _∙_, ap}
+use mathlib.Core.Bool.{Bool, true, false, true≢false}
+use mathlib.Core.List.{List, [], _∷_}
+use Prim.Native.Nat.{ℕ, _≤_, _<_}
+use native.Mathlib.Omega.{arith}
+use lib.IntN.{ℤ}
+use lib.ListN.{length, take}
+use lib.Seq.{take-all, take-length}
+use Rattle.rules.specs.Refusals.{refusalNumber}
+use Rattle.rules.specs.Calls as C
+use Rattle.rules.specs.Calls.{fine, markNumber, replyNumber}
+use Rattle.answers.specs.View.{viewAnswer, viewRefusal, viewMark, viewReply, isRefused}
+use Rattle.answers.specs.declared.Refusal.{Refusal}
+use Rattle.answers.specs.declared.Mark.{Mark}
+use Rattle.answers.specs.declared.Reply.{Reply}
+use Rattle.answers.specs.declared.Answer.{Answer}
+use Rattle.answers.specs.declared.Answer.the-variants.{Refused, Read, Applied}
+use Rattle.printing.specs.Told.{Tells, Shows, wordsIn}
+use Rattle.printing.specs.declared.Told.{Told}
+
+pub as-known : (x y : Answer) (r : Told) → x ≡ y → Tells (viewAnswer y) r → Tells (viewAnswer x) r
+as-known x y r e t = rw e t
+
+module _ (x : Answer) (n : ℕ) (r : Told) (t : Tells (fine (n ∷ [])) r) where
+  pub of-mark : (m : Mark) → x ≡ Read m → n ≡ markNumber (viewMark m) → Tells (viewAnswer x) r
+  of-mark m e h = as-known x (Read m) r e (rw h at t)
+
+  pub of-reply : (m : Reply) → x ≡ Applied m → n ≡ replyNumber (viewReply m) → Tells (viewAnswer x) r
+  of-reply m e h = as-known x (Applied m) r e (rw h at t)
+
+-- ── the words that the line shows ──
+wordsOf : (a : C.Answer) (ws : List ℤ) → isRefused a ≡ false → wordsIn a ws ≡ ws
+wordsOf (C.refused r) ws h = absurd (true≢false h)
+wordsOf (C.fine ns) ws h = refl
+
+noWords : (a : C.Answer) (ws : List ℤ) → isRefused a ≡ true → [] ≡ wordsIn a ws
+noWords (C.refused r) ws h = refl
+noWords (C.fine ns) ws h = absurd (true≢false (sym h))
+
+module _ (a : C.Answer) (ws : List ℤ) (shown : ℕ) (t : Bool) (e : t ≡ isRefused a) where
+  pub show-none : t ≡ true → Shows a ws shown 0
+  show-none h = record { few = omega arith; words = noWords a (take shown ws) (sym e ∙ h) }
+
+  module _ (h : t ≡ false) where
+    told : wordsIn a (take shown ws) ≡ take shown ws
+    told = wordsOf a (take shown ws) (sym e ∙ h)
+
+    pub show-all : length ws < shown → Shows a ws shown (length ws)
+    show-all k = record { few = omega arith; words = take-length ws ∙ sym (told ∙ take-all shown ws (omega arith)) }
+
+    pub show-some : shown ≤ length ws → Shows a ws shown shown
+    show-some k = record { few = k; words = sym told }

@@ -1,0 +1,2 @@
+-- What an answer's line is made of.
+pub mod Told
