@@ -20,9 +20,10 @@ pub const BROKEN: u8 = 255;
 // The natural number of columns that say none; twelve columns do not reach it.
 const NONE: u64 = 1000000000000;
 
-const CALL_WIDTH: usize = 2;
+// Columns of the call, and of every other number.
+pub const CALL_WIDTH: usize = 2;
 
-const WIDTH: usize = 12;
+pub const WIDTH: usize = 12;
 
 const SPACE: u8 = 32;
 

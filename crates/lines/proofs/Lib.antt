@@ -1,0 +1,4 @@
+-- Laws of lines.
+pub mod CallLaws
+pub mod NumberLaws
+pub mod SaidLaws

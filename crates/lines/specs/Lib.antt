@@ -1,0 +1,2 @@
+-- What a line says, as the line format sees it.
+pub mod View
