@@ -7,7 +7,7 @@ use lib.ListN.{length, replicate, take}
 use lib.Dec.{eqb}
 use lib.IntN.{pos, ℤ}
 use Rattle.rules.specs.Limits.{keyCount, placeLimit, wordsPerField}
-use Rattle.rules.specs.Values.{below, natOf}
+use Rattle.rules.specs.Values.{below, natOf, Place}
 use Rattle.rules.specs.Tables.{Plant}
 use Rattle.rules.specs.Calls.{Call, Load, Map, Begin, Read, Change, Commit, Abandon, Advance, Take, Apply, Delete, Cut, Sweep, Store, Report, Answer, refused, fine, Result, Pick}
 use Rattle.rules.specs.Step.{step, Allowed}
@@ -25,28 +25,28 @@ abbrev pub lentWords : List ℤ
 lentWords = replicate (wordsPerField * placeLimit) (pos 0)
 
 -- the places that a read shows, each by eight words; other calls show none
-abbrev pub placesShown : Call → Plant → ℕ
-placesShown (Load d f k v) p = 0
-placesShown (Map k n m) p = 0
-placesShown Begin p = 0
-placesShown (Read s k) p = cond (below k keyCount) (length (p .keys (natOf k))) 0
-placesShown (Change s d f k v) p = 0
-placesShown (Commit s) p = 0
-placesShown (Abandon s) p = 0
-placesShown (Advance n) p = 0
-placesShown (Take w) p = 0
-placesShown (Apply w fate) p = 0
-placesShown (Delete w) p = 0
-placesShown (Cut w) p = 0
-placesShown Sweep p = 0
-placesShown (Store n) p = 0
-placesShown (Report s) p = 0
+abbrev pub placesShown : Call → (ℕ → List Place) → ℕ
+placesShown (Load d f k v) keys = 0
+placesShown (Map k n m) keys = 0
+placesShown Begin keys = 0
+placesShown (Read s k) keys = cond (below k keyCount) (length (keys (natOf k))) 0
+placesShown (Change s d f k v) keys = 0
+placesShown (Commit s) keys = 0
+placesShown (Abandon s) keys = 0
+placesShown (Advance n) keys = 0
+placesShown (Take w) keys = 0
+placesShown (Apply w fate) keys = 0
+placesShown (Delete w) keys = 0
+placesShown (Cut w) keys = 0
+placesShown Sweep keys = 0
+placesShown (Store n) keys = 0
+placesShown (Report s) keys = 0
 
 abbrev pub ended : List ℕ → List ℕ
 ended l = l ++ (newline ∷ [])
 
 abbrev pub replied : Call → Plant → Result → Served
-replied c p r = record { bytes = ended (answerLine (r .answer) (take (wordsPerField * placesShown c p) (r .words))); plant = r .plant }
+replied c p r = record { bytes = ended (answerLine (r .answer) (take (wordsPerField * placesShown c (p .keys)) (r .words))); plant = r .plant }
 
 abbrev pub performed : Said → Pick → Plant → Served
 performed (says c) pick p = replied c p (step c lentWords pick p)

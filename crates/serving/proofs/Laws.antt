@@ -1,0 +1,162 @@
+-- What a line shows of a call, and what a call does as a line asks for it.
+use mathlib.Core.Path.{_≡_, refl, sym, _∙_, ap, subst}
+use mathlib.Core.Bool.{true, false, cond}
+use mathlib.Core.List.{List, [], _++_, _∷_, map}
+use Prim.Native.Nat.{ℕ, _*_, _+_, _<_, _≤_}
+use native.Mathlib.Omega.{arith}
+use lib.Dec.{leb}
+use lib.IntN.{ℤ, pos}
+use lib.ListN.{drop, length, take, length-take, length-append, length-map}
+use mir.Syntax.{w64}
+use mir.Val.{SFits}
+use types.Run.{OneOf, miss}
+use denote.Enum.Declared.{tagOf}
+use borrow.Author.Tests.{le-leb}
+use Rattle.rules.specs.Limits.{keyCount, wordsPerField}
+use Rattle.rules.specs.Values.{below, natOf, Place}
+use Rattle.rules.specs.Kept.{kept}
+use Rattle.rules.specs.Step.{Allowed}
+use Rattle.rules.specs.Refusals as R
+use Rattle.rules.specs.Calls as C
+use Rattle.rules.proofs.Laws.{and-true}
+use Rattle.arguments.proofs.Numbers.{held, inside, inside-is, outside}
+use Rattle.calls.specs.View.{viewCall}
+use Rattle.calls.specs.declared.Call.{Call}
+use Rattle.calls.specs.declared.Call.the-variants.{Load, Map, Begin, Read, Change, Commit, Abandon, Advance, Take, Apply, Delete, Cut, Sweep, Store, Report}
+use Rattle.calls.proofs.Call.{the-type}
+use Rattle.format.specs.Bytes.{newline, callWidth, answerLimit}
+use Rattle.format.specs.Columns.{isNegative, magnitude, column}
+use Rattle.format.specs.Lines.{Said, says, faulty, said, columns, answerLine}
+use Rattle.format.specs.Serving.{lentWords, placesShown, ended, performed}
+use Rattle.keys.specs.View.{viewKeys}
+use Rattle.plant.specs.View.{viewPlant, plantForm, keptPlant}
+use Rattle.plant.specs.declared.Plant.{Plant}
+use Rattle.answers.specs.View.{viewRefusal, viewAnswer}
+use Rattle.answers.specs.declared.Refusal.{Refusal}
+use Rattle.answers.specs.declared.Answer.{Answer}
+use Rattle.answers.specs.declared.Answer.the-variants as answer
+use Rattle.columns.specs.Printed.{printed}
+use Rattle.columns.proofs.ColumnLaws.{columns-long}
+use Rattle.printing.specs.Told.{numbersIn, taken}
+use Rattle.printing.proofs.LineLaws.{columns-length}
+use Rattle.lines.specs.View.{viewSaid}
+use Rattle.lines.specs.declared.Said as lines
+use Rattle.promises.specs.Promise.{chosen, result, Answers, Leaves, Keeps}
+use Rattle.promises.proofs.Chosen.{chosen-allowed}
+use Rattle.serving.specs.Answered.{Answered}
+
+-- ── the words shown ──
+abbrev others : List ℕ
+others = 0 ∷ 1 ∷ 2 ∷ 4 ∷ 5 ∷ 6 ∷ 7 ∷ 8 ∷ 9 ∷ 10 ∷ 11 ∷ 12 ∷ 13 ∷ 14 ∷ []
+
+pub shows-none : (c : Call) (keys : ℕ → List Place) → OneOf others (tagOf the-type c) → 0 ≡ wordsPerField * placesShown (viewCall c) keys
+shows-none (Load d f k v) keys h = refl
+shows-none (Map k n d1 f1 d2 f2 d3 f3 d4 f4) keys h = refl
+shows-none Begin keys h = refl
+shows-none (Read s k) keys h = absurd (miss others 3 tt h)
+shows-none (Change s d f k v) keys h = refl
+shows-none (Commit s) keys h = refl
+shows-none (Abandon s) keys h = refl
+shows-none (Advance n) keys h = refl
+shows-none (Take w) keys h = refl
+shows-none (Apply w f) keys h = refl
+shows-none (Delete w) keys h = refl
+shows-none (Cut w) keys h = refl
+shows-none Sweep keys h = refl
+shows-none (Store n) keys h = refl
+shows-none (Report s) keys h = refl
+
+module _ (x : Call) (s k : ℤ) (e : x ≡ Read s k) (fits : SFits w64 k) (i : ℕ) (ei : i ≡ cond (below (held k) keyCount) (natOf (held k)) keyCount) (keys : ℕ → List Place) where
+  pub no-key : keyCount ≤ i → 0 ≡ wordsPerField * placesShown (viewCall x) keys
+  no-key h = rw (e, outside k fits keyCount i ei h) refl
+
+  pub its-places : i < keyCount → (l : List Place) → l ≡ keys i → (n : ℕ) → n ≡ length l → wordsPerField * n ≡ wordsPerField * placesShown (viewCall x) keys
+  its-places h l el n en = rw (e, inside k fits keyCount i ei h, inside-is k fits keyCount i ei h, en, el) refl
+
+-- ── the answer's line ──
+few-numbers : (a : Answer) → length (numbersIn (viewAnswer a)) ≤ 3
+few-numbers (answer.Refused r) = omega arith
+few-numbers answer.Done = omega arith
+few-numbers (answer.Begun n) = omega arith
+few-numbers (answer.Read m) = omega arith
+few-numbers (answer.Changed n) = omega arith
+few-numbers (answer.Committed n) = omega arith
+few-numbers (answer.Advanced t) = omega arith
+few-numbers (answer.Taken n) = omega arith
+few-numbers (answer.Applied r) = omega arith
+few-numbers (answer.Deleted b) = omega arith
+few-numbers (answer.Swept n) = omega arith
+few-numbers (answer.Reported a b c) = omega arith
+
+call-length : (z : ℤ) → length (column callWidth z) ≡ callWidth
+unfolding column
+call-length z = columns-long (isNegative z) callWidth (magnitude z)
+
+line-length : (a : C.Answer) (ws : List ℤ) → length (numbersIn a) ≤ 3 → length ws ≤ 32 → length (ended (answerLine a ws)) ≤ answerLimit
+unfolding answerLine
+line-length (C.refused r) ws h l = rw (length-append (column callWidth (pos (R.refusalNumber r))) (newline ∷ []), call-length (pos (R.refusalNumber r))) (omega arith)
+line-length (C.fine ns) ws h l =
+    rw (length-append (column callWidth (pos 0) ++ columns (map pos ns ++ ws)) (newline ∷ []), length-append (column callWidth (pos 0)) (columns (map pos ns ++ ws)), call-length (pos 0), columns-length (map pos ns ++ ws), length-append (map pos ns) ws, length-map ns pos)
+    (omega (arith, h, l))
+
+-- a line that fits is printed at the front
+fits-printed : (bs lent : List ℕ) → length bs ≤ length lent → printed bs lent ≡ bs ++ drop (length bs) lent
+unfolding printed
+fits-printed bs lent h = rw (le-leb (length bs) (length lent) h) refl
+
+fits-taken : (bs lent : List ℕ) → length bs ≤ length lent → taken bs lent ≡ length bs
+unfolding taken
+fits-taken bs lent h = rw (le-leb (length bs) (length lent) h) refl
+
+-- ── a call as a line asks for it ──
+module _ (p : Plant) (said : Said) (pick : C.Pick) (bs lent out : List ℕ) (len : ℕ) (room : answerLimit ≤ length lent) (short : length bs ≤ answerLimit)
+    (eo : out ≡ printed bs lent) (el : len ≡ taken bs lent) (eb : bs ≡ performed said pick (viewPlant p) .bytes) (allowed : Allowed pick (viewPlant p)) where
+  fits : length bs ≤ length lent
+  fits = omega (arith, room, short)
+
+  answered : (q : Plant) → viewPlant q ≡ performed said pick (viewPlant p) .plant → keptPlant q ≡ true → Answered said p lent out len q
+  answered q leaves keeps =
+      let n : len ≡ length bs = el ∙ fits-taken bs lent fits in
+      record {
+        pick = pick;
+        allowed = allowed;
+        prints = eo ∙ fits-printed bs lent fits ∙ rw (n, eb) refl;
+        counts = n ∙ ap length eb;
+        leaves = leaves;
+        keeps = keeps;
+      }
+
+allowed-here : (p : Plant) → keptPlant p ≡ true → Allowed (chosen (viewPlant p)) (viewPlant p)
+unfolding keptPlant
+allowed-here p k = chosen-allowed (viewPlant p) (and-true (plantForm p) (kept (viewPlant p)) k .1)
+
+pub performs : (p q : Plant) (c : Call) (a : Answer) (ws : List ℤ) (n : ℕ) (lent out : List ℕ) (len : ℕ)
+    → Answers (viewCall c) lentWords p a → (keptPlant p ≡ true → ws ≡ result (viewCall c) lentWords p .words) → length ws ≡ 32
+    → n ≡ wordsPerField * placesShown (viewCall c) (viewKeys (p .keys))
+    → out ≡ printed (ended (answerLine (viewAnswer a) (take n ws))) lent → len ≡ taken (ended (answerLine (viewAnswer a) (take n ws))) lent
+    → Leaves (viewCall c) p a q → Keeps (viewCall c) p a q
+    → answerLimit ≤ length lent → keptPlant p ≡ true → Answered (says (viewCall c)) p lent out len q
+unfolding viewPlant
+performs p q c a ws n lent out len answers fills lw en eo el leaves keeps room k =
+    answered p (says (viewCall c)) (chosen (viewPlant p)) (ended (answerLine (viewAnswer a) (take n ws))) lent out len room
+    (line-length (viewAnswer a) (take n ws) (few-numbers a) (rw (length-take n ws, lw) (omega arith)))
+    eo el (rw (answers k, fills k, en) refl) (allowed-here p k) q (leaves k lentWords (answers k)) (keeps k lentWords (answers k))
+
+pub refuses : (p : Plant) (r : Refusal) (lent out : List ℕ) (len : ℕ) (ws : List ℤ)
+    → out ≡ printed (ended (answerLine (C.refused (viewRefusal r)) ws)) lent → len ≡ taken (ended (answerLine (C.refused (viewRefusal r)) ws)) lent
+    → answerLimit ≤ length lent → keptPlant p ≡ true → Answered (faulty (viewRefusal r)) p lent out len p
+unfolding answerLine
+refuses p r lent out len ws eo el room k =
+    answered p (faulty (viewRefusal r)) (chosen (viewPlant p)) (ended (answerLine (C.refused (viewRefusal r)) ws)) lent out len room
+    (rw (length-append (column callWidth (pos (R.refusalNumber (viewRefusal r)))) (newline ∷ []), call-length (pos (R.refusalNumber (viewRefusal r)))) (omega arith)) eo el refl (allowed-here p k) p refl k
+
+-- ── what a line says is done ──
+pub serves : (line lent out : List ℕ) (len : ℕ) (p q : Plant) (x y : lines.Said) → x ≡ y → viewSaid x ≡ said line → answerLimit ≤ length lent
+    → (answerLimit ≤ length lent → keptPlant p ≡ true → Answered (viewSaid y) p lent out len q)
+    → (answerLimit ≤ length lent → keptPlant p ≡ true → Answered (said line) p lent out len q) × (length lent < answerLimit → (q ≡ p) × ((len ≡ 0) × (out ≡ lent)))
+serves line lent out len p q x y e es room h =
+    (λ r k. subst (λ s. Answered s p lent out len q) (ap viewSaid (sym e) ∙ es) (h r k), λ l. absurd (omega (arith, l, room)))
+
+pub too-few : (line lent : List ℕ) (p : Plant) (len : ℕ) → len ≡ 0 → length lent < answerLimit
+    → (answerLimit ≤ length lent → keptPlant p ≡ true → Answered (said line) p lent lent len p) × (length lent < answerLimit → (p ≡ p) × ((len ≡ 0) × (lent ≡ lent)))
+too-few line lent p len e h = (λ r k. absurd (omega (arith, r, h)), λ l. (refl, (e, refl)))

@@ -1,0 +1,2 @@
+-- What serving a line promises.
+pub mod Answered
