@@ -1,4 +1,3 @@
--- Laws of what is printed.
+-- Laws of lines.
 pub mod LineLaws
-mod ToldLaws
 mod Written

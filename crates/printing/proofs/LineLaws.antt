@@ -1,8 +1,8 @@
 -- Columns one after the other, and the line that they make.
 use mathlib.Core.Path.{_≡_, refl, sym, _∙_, ap}
-use mathlib.Core.Bool.{true, false}
+use mathlib.Core.Bool.{Bool, true, false, not}
 use mathlib.Core.List.{List, [], _∷_, _++_, append-assoc, append-nil, map}
-use Prim.Native.Nat.{ℕ, _+_, _-_, _*_, _≤_, _<_, _^_}
+use Prim.Native.Nat.{ℕ, _+_, _-_, _*_, _/_, _≤_, _<_, _^_}
 use native.Mathlib.Numerals.{add-one}
 use native.Mathlib.Omega.{arith}
 use lib.Dec.{leb}
@@ -14,18 +14,24 @@ use mir.Syntax.{w32}
 use mir.Val.{toZ, ofZ}
 use mir.Facts.{toZ-ofZ}
 use borrow.Author.Needs.{sfits-of}
-use borrow.Author.Tests.{le-leb, lt-leb}
+use borrow.Author.Tests.{le-leb, lt-leb, leb-true, leb-false, not-true, not-false}
 use borrow.Rule.Slice.PartMut.{putMid}
+use Rattle.rules.proofs.Laws.{byCase}
 use Rattle.rules.specs.Refusals.{refusalNumber}
 use Rattle.rules.specs.Calls.{Answer, refused, fine}
+use Rattle.rules.specs.Limits.{placeLimit, wordsPerField}
+use Rattle.answers.specs.View.{viewAnswer}
+use Rattle.answers.specs.declared.Answer as answers
 use Rattle.format.specs.Bytes.{newline, callWidth, numberWidth}
 use Rattle.format.specs.Columns.{isNegative, magnitude, column}
 use Rattle.format.specs.Lines.{columns, answerLine}
 use Rattle.format.specs.Serving.{ended}
 use Rattle.columns.specs.Printed.{printed}
 use Rattle.columns.proofs.ColumnLaws.{columns-long}
-use Rattle.printing.specs.Told.{refusalIn, numbersIn, wordsIn, Tells, Shows, taken}
-use Rattle.printing.specs.declared.Told.{Told}
+use Rattle.telling.specs.Told.{refusalIn, numbersIn, wordsIn, numberLimit, Tells, Shows}
+use Rattle.telling.specs.declared.Told.{Told}
+use Rattle.telling.proofs.ToldLaws.{numbers-few, words-few}
+use Rattle.printing.specs.Line.{lineWidth, longest, lineOf, taken}
 use Rattle.printing.proofs.Written.{Written, nothing, first, as-printed, long, on, byte}
 
 column-length : (z : ℤ) → length (column numberWidth z) ≡ numberWidth
@@ -98,60 +104,96 @@ refusal-length : (n : ℕ) → length (column callWidth (pos n)) ≡ callWidth
 unfolding column
 refusal-length n = columns-long false callWidth n
 
-module _ (a : Answer) (t : Told) (ws : List ℤ) (shown n : ℕ) (tells : Tells a t) (shows : Shows a ws shown n) where
-  abbrev line : List ℕ
-  line = ended (answerLine a (take shown ws))
+abbrev refusal : Told → List ℕ
+refusal t = column callWidth (pos (t .refusal))
 
-  abbrev refusal : List ℕ
-  refusal = column callWidth (pos (t .refusal))
+abbrev numbers : Told → List ℕ
+numbers t = columns (map pos (take (t .count) (t .numbers)))
 
-  abbrev numbers : List ℕ
-  numbers = columns (map pos (take (t .count) (t .numbers)))
+pub told-count : (t : Told) → t .count ≤ numberLimit → length (t .numbers) ≡ numberLimit → length (take (t .count) (t .numbers)) ≡ t .count
+told-count t h l = length-take-le (t .count) (t .numbers) (omega arith)
 
-  abbrev words : List ℕ
-  words = columns (take n ws)
+-- what is told, n words, and the lengths of their columns
+module _ (t : Told) (ws : List ℤ) (n : ℕ) (l : length (take (t .count) (t .numbers)) ≡ t .count) (few : n ≤ length ws) where
+  numbers-length : length (numbers t) ≡ numberWidth * t .count
+  numbers-length = omega (arith, columns-length (map pos (take (t .count) (t .numbers))), length-map (take (t .count) (t .numbers)) pos)
 
-  line-is : line ≡ ended ((refusal ++ numbers) ++ words)
-  line-is =
-      let p : answerLine a (take shown ws) ≡ (refusal ++ numbers) ++ words = in-parts a (take shown ws) ∙ rw (← tells .refusal, ← tells .numbers, ← shows .words) (sym (append-assoc refusal numbers words)) in
-      ap ended p
+  words-length : length (columns (take n ws)) ≡ numberWidth * n
+  words-length = omega (arith, columns-length (take n ws), words-count ws n few)
 
-  numbers-length : length numbers ≡ numberWidth * t .count
-  numbers-length =
-      let l : length (map pos (take (t .count) (t .numbers))) ≡ t .count = length-map (take (t .count) (t .numbers)) pos ∙ ap length (tells .numbers) ∙ sym (tells .count) in
-      omega (arith, columns-length (map pos (take (t .count) (t .numbers))))
-
-  words-length : length words ≡ numberWidth * n
-  words-length = omega (arith, columns-length (take n ws), words-count ws n (shows .few))
-
-  line-length : length line ≡ callWidth + numberWidth * t .count + numberWidth * n + 1
-  line-length = rw line-is (simp length-append (omega (arith, refusal-length (t .refusal), numbers-length, words-length)))
-
-  pub no-room : (v : List ℕ) → length v < callWidth + numberWidth * t .count + numberWidth * n + 1 → (v ≡ printed line v) × (0 ≡ taken line v)
-  unfolding printed taken
-  no-room v h = let q : leb (length line) (length v) ≡ false = lt-leb (length line) (length v) (rw line-length h) in (rw q refl, rw q refl)
+  line-length : length (lineOf t (take n ws)) ≡ lineWidth (t .count) n
+  line-length = simp length-append (omega (arith, refusal-length (t .refusal), numbers-length, words-length))
 
   abbrev at : ℕ
   at = callWidth + numberWidth * t .count
 
-  -- each part is printed into a part lent on, and then byte 10
-  pub line-written : (v : List ℕ) → callWidth + numberWidth * t .count + numberWidth * n + 1 ≤ length v
-      → (vs ys zs : List ℕ) → vs ≡ printed refusal v → ys ≡ printed numbers (take (length vs - callWidth) (drop callWidth vs))
-      → zs ≡ printed words (take (length (putMid callWidth (length vs - callWidth) vs ys) - at) (drop at (putMid callWidth (length vs - callWidth) vs ys)))
-      → Written v (ended ((refusal ++ numbers) ++ words)) (set (putMid at (length (putMid callWidth (length vs - callWidth) vs ys) - at) (putMid callWidth (length vs - callWidth) vs ys) zs) (at + numberWidth * n) newline)
-  line-written v h vs ys zs p q r =
-      let l = refusal-length (t .refusal) in
-      let k = numbers-length in
-      let m = words-length in
-      let w₁ = first v refusal vs (omega arith) p in
-      let w₂ = on w₁ callWidth (sym l) numbers ys (omega arith) q in
-      let w₃ = on w₂ at (simp length-append (omega arith)) words zs (omega arith) r in
-      byte w₃ (at + numberWidth * n) (simp length-append (omega arith)) newline (omega arith)
+  -- each part is printed into a part lent on
+  abbrev pub parts : List ℕ
+  parts = (refusal t ++ numbers t) ++ columns (take n ws)
 
-  pub line-printed : (v vs : List ℕ) → Written v (ended ((refusal ++ numbers) ++ words)) vs → (vs ≡ printed line v) × (at + numberWidth * n + 1 ≡ taken line v)
-  unfolding taken
-  line-printed v vs w =
-      let l = ap length line-is in
-      let r = w .room in
-      let h : length line ≤ length v = omega arith in
-      (as-printed w ∙ ap (λ (b : List ℕ). printed b v) (sym line-is), rw (le-leb (length line) (length v) h) (sym line-length))
+  module _ (v : List ℕ) (h : lineWidth (t .count) n ≤ length v) where
+    pub parts-written : (vs ys zs : List ℕ) → vs ≡ printed (refusal t) v → ys ≡ printed (numbers t) (take (length vs - callWidth) (drop callWidth vs))
+        → zs ≡ printed (columns (take n ws)) (take (length (putMid callWidth (length vs - callWidth) vs ys) - at) (drop at (putMid callWidth (length vs - callWidth) vs ys)))
+        → Written v parts (putMid at (length (putMid callWidth (length vs - callWidth) vs ys) - at) (putMid callWidth (length vs - callWidth) vs ys) zs)
+    parts-written vs ys zs p q r =
+        let r₀ = refusal-length (t .refusal) in
+        let n₀ = numbers-length in
+        let w₀ = words-length in
+        let w₁ = first v (refusal t) vs (omega arith) p in
+        let w₂ = on w₁ callWidth (sym r₀) (numbers t) ys (omega arith) q in
+        on w₂ at (simp length-append (omega arith)) (columns (take n ws)) zs (omega arith) r
+
+    -- and then byte 10
+    pub line-ended : (vs : List ℕ) → Written v parts vs → set vs (at + numberWidth * n) newline ≡ printed (lineOf t (take n ws)) v
+    line-ended vs w =
+        let r₀ = refusal-length (t .refusal) in
+        let n₀ = numbers-length in
+        let w₀ = words-length in
+        as-printed (byte w (at + numberWidth * n) (simp length-append (omega arith)) newline (omega arith))
+
+-- ── the answer's line ──
+module _ (a : Answer) (t : Told) (ws : List ℤ) (shown n : ℕ) (tells : Tells a t) (shows : Shows a ws shown n) where
+  abbrev line : List ℕ
+  line = ended (answerLine a (take shown ws))
+
+  line-is : line ≡ lineOf t (take n ws)
+  line-is =
+      let p : answerLine a (take shown ws) ≡ (refusal t ++ numbers t) ++ columns (take n ws) = in-parts a (take shown ws) ∙ rw (← tells .refusal, ← tells .numbers, ← shows .words) (sym (append-assoc (refusal t) (numbers t) (columns (take n ws)))) in
+      ap ended p
+
+  width : length line ≡ lineWidth (t .count) n
+  width = ap length line-is ∙ line-length t ws n (ap length (tells .numbers) ∙ sym (tells .count)) (shows .few)
+
+  module _ (v : List ℕ) (fit : Bool) (e : fit ≡ leb (lineWidth (t .count) n) (length v)) where
+    pub no-room : not fit ≡ true → (v ≡ printed line v) × (0 ≡ taken line v)
+    unfolding printed taken
+    no-room h = let q : leb (length line) (length v) ≡ false = rw width (sym e ∙ not-true fit h) in (rw q refl, rw q refl)
+
+    pub line-printed : not fit ≡ false → (vs : List ℕ) (r : ℕ) → vs ≡ printed (lineOf t (take n ws)) v → r ≡ lineWidth (t .count) n → (vs ≡ printed line v) × (r ≡ taken line v)
+    unfolding taken
+    line-printed h vs r p q =
+        let b : leb (length line) (length v) ≡ true = rw width (sym e ∙ not-false fit h) in
+        (p ∙ ap (λ (l : List ℕ). printed l v) (sym line-is), q ∙ rw b (sym width))
+
+-- whoever lends so many bytes has room for every line
+pub line-short : (a : answers.Answer) (ws : List ℤ) → length ws ≤ wordsPerField * placeLimit → length (ended (answerLine (viewAnswer a) ws)) ≤ longest
+line-short a ws h =
+    rw (in-parts (viewAnswer a) ws)
+    (simp length-append
+    (omega
+    (arith, refusal-length (refusalIn (viewAnswer a)), columns-length (map pos (numbersIn (viewAnswer a))), columns-length (wordsIn (viewAnswer a) ws), length-map (numbersIn (viewAnswer a)) pos, numbers-few a, words-few (viewAnswer a) ws)))
+
+-- ── the test for room ──
+module _ (count n room : ℕ) where
+  pub room-less : room < callWidth + numberWidth * count + 1 → false ≡ leb (lineWidth count n) room
+  room-less h = sym (lt-leb (lineWidth count n) room (omega arith))
+
+  pub room-left : callWidth + numberWidth * count + 1 ≤ room → leb n ((room - (callWidth + numberWidth * count + 1)) / numberWidth) ≡ leb (lineWidth count n) room
+  room-left h =
+      let m = (room - (callWidth + numberWidth * count + 1)) / numberWidth in
+      byCase (leb n m)
+      (λ q. q ∙ sym (le-leb (lineWidth count n) room (omega (arith, leb-true n m q))))
+      (λ q. q ∙ sym (lt-leb (lineWidth count n) room (omega (arith, leb-false n m q))))
+
+  pub room-is : (fit : Bool) → fit ≡ leb (lineWidth count n) room → not fit ≡ false → lineWidth count n ≤ room
+  room-is fit e h = leb-true (lineWidth count n) room (sym e ∙ not-false fit h)

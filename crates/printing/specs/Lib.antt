@@ -1,2 +1,2 @@
--- What an answer's line is made of.
-pub mod Told
+-- The line that is printed.
+pub mod Line

@@ -1,71 +1,24 @@
 // An answer's line, printed into lent bytes.
 ghost use mathlib.Core.Path.{_≡_};
-ghost use mathlib.Core.List.{[], _∷_, map};
+ghost use mathlib.Core.List.{map};
 ghost use Prim.Native.Nat.{_*_, _≤_};
+ghost use lib.Dec.{leb};
 ghost use lib.IntN.{pos};
 ghost use lib.ListN.{length, take};
-ghost use Rattle.rules.specs.Calls.{fine};
 ghost use Rattle.format.specs.Bytes.{numberWidth};
 ghost use Rattle.format.specs.Lines.{columns, answerLine};
 ghost use Rattle.format.specs.Serving.{ended};
 ghost use Rattle.answers.specs.View.{viewAnswer};
 ghost use Rattle.columns.specs.Printed.{printed};
-ghost use Rattle.printing.specs.Told.{numberLimit, Tells, Shows, taken};
+ghost use Rattle.telling.specs.Told.{numberLimit};
+ghost use Rattle.printing.specs.Line.{lineWidth, lineOf, taken};
 use answers::Answer;
+use telling::Told;
+
+// The most bytes that a line of an answer takes, with the words of the longest key.
+pub const LONGEST: usize = 423;
 
 const NEWLINE: u8 = 10;
-
-// What an answer tells: its refusal or 0, and the first `count` of the numbers.
-struct Told {
-    refusal: u8,
-    count: usize,
-    numbers: [u64; Told::LIMIT],
-}
-
-impl Told {
-    const LIMIT: usize = 3;
-
-    fn one(n: u64) -> Self
-        ensures { λ r. ⌜ Tells (fine (n ∷ [])) r ⌝ }
-    {
-        Told {
-            refusal: 0,
-            count: 1,
-            numbers: [n, 0, 0],
-        }
-    }
-
-    fn of(a: Answer) -> Self
-        ensures { λ r. ⌜ Tells (viewAnswer a) r ⌝ }
-    {
-        match a {
-            Answer::Refused(r) => Told {
-                refusal: r.number(),
-                count: 0,
-                numbers: [0, 0, 0],
-            },
-            Answer::Done => Told {
-                refusal: 0,
-                count: 0,
-                numbers: [0, 0, 0],
-            },
-            Answer::Begun(n) => Told::one(n as u64),
-            Answer::Read(m) => Told::one(m.number() as u64),
-            Answer::Changed(n) => Told::one(n as u64),
-            Answer::Committed(n) => Told::one(n as u64),
-            Answer::Advanced(t) => Told::one(t),
-            Answer::Taken(n) => Told::one(n as u64),
-            Answer::Applied(r) => Told::one(r.number() as u64),
-            Answer::Deleted(b) => Told::one(b as u64),
-            Answer::Swept(n) => Told::one(n as u64),
-            Answer::Reported(s, x, c) => Told {
-                refusal: 0,
-                count: 3,
-                numbers: [s as u64, x as u64, c as u64],
-            },
-        }
-    }
-}
 
 // The numbers that are told, each in its columns.
 fn print_numbers(t: Told, out: &mut [u8])
@@ -93,17 +46,31 @@ fn print_words(ws: &[i32], n: usize, out: &mut [u8])
     }
 }
 
-// How many of the words a line shows: a refusal shows none.
-fn shown_words(a: Answer, words: &[i32], shown: usize) -> usize
-    ensures { λ r. ⌜ Shows (viewAnswer a) (now (words .entry)) shown r ⌝ }
+// There is room for a line with so many numbers and words. The division keeps the sum from being too large.
+fn has_room(count: usize, n: usize, room: usize) -> bool
+    requires { ⌜ count ≤ numberLimit ⌝ }
+    ensures { λ r. ⌜ r ≡ leb (lineWidth count n) room ⌝ }
 {
-    if a.is_refused() {
-        return 0;
+    let fixed = columns::REFUSAL_WIDTH + columns::NUMBER_WIDTH * count + 1;
+    if room < fixed {
+        return false;
     }
-    if words.len() < shown {
-        return words.len();
-    }
-    shown
+    n <= (room - fixed) / columns::NUMBER_WIDTH
+}
+
+// The line of what is told and the first n words; its length.
+fn print_line(t: Told, words: &[i32], n: usize, out: &mut [u8]) -> usize
+    requires { ⌜ (t .count ≤ numberLimit) × (n ≤ length (now words)) × (lineWidth (t .count) n ≤ length (now out)) ⌝ }
+    ensures prints { λ r. ⌜ now (out .exit) ≡ printed (lineOf t (take n (now (words .entry)))) (now (out .entry)) ⌝ }
+    ensures takes { λ r. ⌜ r ≡ lineWidth (t .count) n ⌝ }
+{
+    let at = columns::REFUSAL_WIDTH + columns::NUMBER_WIDTH * t.count;
+    let end = at + columns::NUMBER_WIDTH * n;
+    columns::refusal(t.refusal, out);
+    print_numbers(t, &mut out[columns::REFUSAL_WIDTH..]);
+    print_words(words, n, &mut out[at..]);
+    out[end] = NEWLINE;
+    end + 1
 }
 
 // Prints the answer with the first `shown` of a read's words, byte 10 last, and tells how many bytes that takes;
@@ -113,18 +80,9 @@ pub fn answer(a: Answer, words: &[i32], shown: usize, out: &mut [u8]) -> usize
     ensures takes { λ r. ⌜ r ≡ taken (ended (answerLine (viewAnswer a) (take shown (now (words .entry))))) (now (out .entry)) ⌝ }
 {
     let t = Told::of(a);
-    let n = shown_words(a, words, shown);
-    let at = columns::REFUSAL_WIDTH + columns::NUMBER_WIDTH * t.count;
-    if out.len() <= at {
+    let n = telling::shown_words(a, words, shown);
+    if !has_room(t.count, n, out.len()) {
         return 0;
     }
-    if (out.len() - at - 1) / columns::NUMBER_WIDTH < n {
-        return 0;
-    }
-    let end = at + columns::NUMBER_WIDTH * n;
-    columns::refusal(t.refusal, out);
-    print_numbers(t, &mut out[columns::REFUSAL_WIDTH..]);
-    print_words(words, n, &mut out[at..]);
-    out[end] = NEWLINE;
-    end + 1
+    print_line(t, words, n, out)
 }

@@ -7,9 +7,6 @@ use borrow.Author.Needs.{needs}
 use Rattle.printing.proofs.LineLaws.{Printing, print-start, print-next, print-end, numbers-count, number-at}
 use Rattle.printing.proofs.print_numbers.Statement.{statement}
 use Rattle.printing.proofs.print_numbers.Tie as tie
-use Rattle.printing.proofs.print_numbers.Reads as reads
-use Rattle.printing.proofs.print_numbers.Lts as lts
-use Rattle.columns.proofs.number.Reads as number-reads
 
 abbrev Inv-loop : tie.InvT-loop
 Inv-loop out₀ t i₀ out i = Printing (map pos (take (t .count) (t .numbers))) (t .count) out₀ out i

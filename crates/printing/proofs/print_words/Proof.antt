@@ -6,9 +6,6 @@ use borrow.Author.Needs.{needs}
 use Rattle.printing.proofs.LineLaws.{Printing, print-start, print-next, print-end, words-count, word-at}
 use Rattle.printing.proofs.print_words.Statement.{statement}
 use Rattle.printing.proofs.print_words.Tie as tie
-use Rattle.printing.proofs.print_words.Reads as reads
-use Rattle.printing.proofs.print_words.Lts as lts
-use Rattle.columns.proofs.word.Reads as word-reads
 
 abbrev Inv-loop : tie.InvT-loop
 Inv-loop ws n out₀ i₀ out i = Printing (take n ws) n out₀ out i

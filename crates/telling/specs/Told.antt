@@ -1,14 +1,12 @@
--- What an answer tells on its line: the refusal or 0, and the numbers; and how many bytes a printed line takes.
+-- What an answer tells on its line: the refusal or 0, the numbers and the words.
 use mathlib.Core.Path.{_≡_}
 use Prim.Native.Nat.{ℕ, _≤_}
-use mathlib.Core.Bool.{cond}
 use mathlib.Core.List.{List, []}
 use lib.ListN.{length, take}
-use lib.Dec.{leb}
 use lib.IntN.{ℤ}
 use Rattle.rules.specs.Refusals.{refusalNumber}
 use Rattle.rules.specs.Calls.{Answer, refused, fine}
-use Rattle.printing.specs.declared.Told.{Told}
+use Rattle.telling.specs.declared.Told.{Told}
 
 abbrev pub refusalIn : Answer → ℕ
 refusalIn (refused r) = refusalNumber r
@@ -36,7 +34,3 @@ wordsIn (fine ns) ws = ws
 pub record Shows (a : Answer) (ws : List ℤ) (shown n : ℕ) : Type 0 where
   pub few : n ≤ length ws
   pub words : take n ws ≡ wordsIn a (take shown ws)
-
--- none where too few are lent
-unfoldable pub taken : List ℕ → List ℕ → ℕ
-taken bs lent = cond (leb (length bs) (length lent)) (length bs) 0

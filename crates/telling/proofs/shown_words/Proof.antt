@@ -1,8 +1,8 @@
 -- `shown_words` meets its contract.
-use Rattle.printing.proofs.ToldLaws.{show-none, show-all, show-some}
+use Rattle.telling.proofs.ToldLaws.{show-none, show-all, show-some}
 use borrow.Author.Needs.{needs}
-use Rattle.printing.proofs.shown_words.Statement.{statement}
-use Rattle.printing.proofs.shown_words.Tie as tie
+use Rattle.telling.proofs.shown_words.Statement.{statement}
+use Rattle.telling.proofs.shown_words.Tie as tie
 
 is-refused-requires : tie.Need-is-refused-requires
 is-refused-requires c κs = search needs

@@ -1,0 +1,2 @@
+-- Laws of what an answer tells.
+pub mod ToldLaws
