@@ -3,6 +3,7 @@ use mathlib.Core.Path.{_≡_}
 use Prim.Native.Nat.{ℕ}
 use mathlib.Core.List.{List}
 use lib.ListN.{length, take, length-set}
+use native.Mathlib.Omega.{arith}
 use denote.Ref.{now}
 use borrow.Author.Needs.{needs}
 use Rattle.printing.proofs.Written.{Written, long}
@@ -11,49 +12,49 @@ use Rattle.printing.proofs.print_line.Statement.{statement}
 use Rattle.printing.proofs.print_line.Tie as tie
 
 mul-at : tie.Need-mul-at
-mul-at c = search needs
+mul-at c = omega arith
 
 add-at : tie.Need-add-at
-add-at c = search needs
+add-at c = omega arith
 
 mul-end : tie.Need-mul-end
-mul-end c = search needs
+mul-end c = omega arith
 
 add-end : tie.Need-add-end
-add-end c = search needs
+add-end c = omega arith
 
 refusal-requires : tie.Need-refusal-requires
 refusal-requires c κs = search needs
 
 sub-print-numbers : tie.Need-sub-print-numbers
-sub-print-numbers c = search needs
+sub-print-numbers c = omega arith
 
 part-print-numbers-start : tie.Need-part-print-numbers-start
-part-print-numbers-start c = search needs
+part-print-numbers-start c = omega arith
 
 part-print-numbers-end : tie.Need-part-print-numbers-end
-part-print-numbers-end c = search needs
+part-print-numbers-end c = omega arith
 
 print-numbers-requires : tie.Need-print-numbers-requires
 print-numbers-requires c κs = search needs
 
 sub-print-words : tie.Need-sub-print-words
-sub-print-words c = search needs
+sub-print-words c = omega arith
 
 part-print-words-start : tie.Need-part-print-words-start
-part-print-words-start c = search needs
+part-print-words-start c = omega arith
 
 part-print-words-end : tie.Need-part-print-words-end
-part-print-words-end c = search needs
+part-print-words-end c = omega arith
 
 print-words-requires : tie.Need-print-words-requires
 print-words-requires c κs = search needs
 
 slice-write-out : tie.Need-slice-write-out
-slice-write-out c = search needs
+slice-write-out c = omega arith
 
 add-result : tie.Need-add-result
-add-result c = search needs
+add-result c = omega arith
 
 -- where the function was entered
 abbrev start : tie.After-slice-known4 → tie.Start
