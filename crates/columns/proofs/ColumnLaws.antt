@@ -1,28 +1,21 @@
 -- A number's columns, filled from the last digit: one law for each way out of a function.
 use mathlib.Core.Path.{_≡_, refl, sym, _∙_, ap}
 use mathlib.Core.Bool.{Bool, true, false, cond, not, true≢false}
-use mathlib.Core.List.{List, [], _∷_, _++_, append-assoc}
+use mathlib.Core.List.{List, [], _∷_, _++_}
 use Prim.Native.Nat.{ℕ, zero, suc, _+_, _-_, _/_, _%_, _≤_, _<_}
 use native.Mathlib.Omega.{arith}
-use lib.Dec.{leb, ltb}
+use lib.Dec.{ltb}
 use lib.IntN.{pos}
-use lib.ListN.{length, getD, take, drop, set, replicate, length-append, length-drop, length-set, length-replicate, take-append-drop}
+use lib.ListN.{length, take, drop, set, replicate, length-append, length-drop, length-set, length-replicate, take-append-drop}
 use lib.Seq.{drop-cons, getD-set-same, drop-set-lt, take-set-le, take-at, drop-at, take-take, set-at, append-snoc}
 use Rattle.rules.proofs.Laws.{byCase}
 use borrow.Author.Tests.{le-leb, lt-leb, lt-ltb, le-ltb}
 use Rattle.format.specs.Bytes.{space, minus, digitZero, base, callWidth}
 use Rattle.format.specs.Columns.{before, digitsIn, column}
+use Rattle.format.proofs.Widths.{replicate-last, spaces, columns-long}
 use Rattle.columns.specs.Printed.{printed}
 
 -- ── the columns before the digits ──
-replicate-last : (w a : ℕ) → replicate w a ++ (a ∷ []) ≡ replicate (suc w) a
-replicate-last zero a = refl
-replicate-last (suc w) a = ap (λ (l : List ℕ). a ∷ l) (replicate-last w a)
-
-spaces : (w : ℕ) → before false w ≡ replicate w space
-spaces zero = refl
-spaces (suc w) = replicate-last w space
-
 pub sign-none : (negative : Bool) (w : ℕ) (v : List ℕ) → take w v ≡ replicate w space → not negative ≡ true → v ≡ before negative w ++ drop w v
 sign-none true w v e h = absurd (true≢false (sym h))
 sign-none false w v e h = sym (take-append-drop w v) ∙ ap (λ (l : List ℕ). l ++ drop w v) (e ∙ sym (spaces w))
@@ -45,16 +38,6 @@ pub record Filling (negative : Bool) (n w : ℕ) (v vs : List ℕ) (rest i : ℕ
   pub long : length vs ≡ length v
   pub blank : take i vs ≡ replicate i space
   pub todo : digitsIn negative w n ++ drop w v ≡ digitsIn negative i rest ++ drop i vs
-
-before-long : (negative : Bool) (w : ℕ) → length (before negative w) ≡ w
-before-long negative zero = refl
-before-long negative (suc w) = simp (length-append, length-replicate) (omega arith)
-
-pub columns-long : (negative : Bool) (w n : ℕ) → length (digitsIn negative w n) ≡ w
-columns-long negative zero n = refl
-columns-long negative (suc w) n =
-    let h : length (cond (ltb n base) (before negative w) (digitsIn negative w (n / base))) ≡ w = byCase (ltb n base) (λ t. rw t (before-long negative w)) (λ t. rw t (columns-long negative w (n / base))) in
-    simp length-append (omega arith)
 
 pub too-few : (negative : Bool) (n w : ℕ) (u : List ℕ) → length u < w → u ≡ printed (digitsIn negative w n) u
 unfolding printed

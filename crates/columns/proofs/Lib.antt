@@ -1,3 +1,3 @@
 -- Laws of columns.
-pub mod ColumnLaws
+mod ColumnLaws
 mod WordLaws

@@ -3,3 +3,5 @@ pub mod Short
 pub mod Cutting
 pub mod Serving
 pub mod Feeding
+pub mod ReadBack
+pub mod Widths

@@ -26,8 +26,8 @@ use Rattle.format.specs.Bytes.{newline, callWidth, numberWidth}
 use Rattle.format.specs.Columns.{isNegative, magnitude, column}
 use Rattle.format.specs.Lines.{columns, answerLine}
 use Rattle.format.specs.Serving.{ended}
+use Rattle.format.proofs.Widths.{columns-long}
 use Rattle.columns.specs.Printed.{printed}
-use Rattle.columns.proofs.ColumnLaws.{columns-long}
 use Rattle.telling.specs.Told.{refusalIn, numbersIn, wordsIn, numberLimit, Tells, Shows}
 use Rattle.telling.specs.declared.Told.{Told}
 use Rattle.telling.proofs.ToldLaws.{numbers-few, words-few}

@@ -1,5 +1,4 @@
 // What an answer tells on its line: the refusal or 0, numbers, and how many of the words that are lent to a read.
-ghost use mathlib.Core.Path.{_≡_};
 ghost use mathlib.Core.List.{[], _∷_};
 ghost use Rattle.rules.specs.Calls.{fine};
 ghost use Rattle.answers.specs.View.{viewAnswer};
