@@ -1,4 +1,4 @@
-// A number in its columns, printed into lent bytes.
+// A number in its columns, printed into lent bytes; nothing is printed where these are too few.
 ghost use mathlib.Core.Path.{_≡_};
 ghost use mathlib.Core.List.{_++_};
 ghost use Prim.Native.Nat.{_+_, _%_, _≤_};
@@ -76,7 +76,6 @@ fn digits(negative: bool, n: u64, out: &mut [u8])
     }
 }
 
-// In none of the functions below is anything printed where too few bytes are lent.
 // A number without a sign, as an answer tells it.
 pub fn number(n: u64, out: &mut [u8])
     ensures { λ r. ⌜ now (out .exit) ≡ printed (column numberWidth (pos n)) (now (out .entry)) ⌝ }
