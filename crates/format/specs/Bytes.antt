@@ -35,7 +35,3 @@ mostNumbers = 10
 -- bytes of a line that tell what it says: those of the longest line in form, and one more, which tells that a line is too long
 abbrev pub lineLimit : ℕ
 lineLimit = callWidth + mostNumbers * numberWidth + 1
-
--- bytes of the longest answer line: a refusal or 0, three numbers at most, the words of the longest key, and byte 10
-abbrev pub answerLimit : ℕ
-answerLimit = callWidth + (3 + 32) * numberWidth + 1

@@ -1,12 +1,12 @@
 -- What a line shows of a call, and what a call does as a line asks for it.
 use mathlib.Core.Path.{_≡_, refl, sym, _∙_, ap, subst}
 use mathlib.Core.Bool.{true, false, cond}
-use mathlib.Core.List.{List, [], _++_, _∷_, map}
+use mathlib.Core.List.{List, [], _++_, _∷_}
 use Prim.Native.Nat.{ℕ, _*_, _+_, _<_, _≤_}
 use native.Mathlib.Omega.{arith}
 use lib.Dec.{leb}
 use lib.IntN.{ℤ, pos}
-use lib.ListN.{drop, length, take, length-take, length-append, length-map}
+use lib.ListN.{drop, length, take, length-take}
 use mir.Syntax.{w64}
 use mir.Val.{SFits}
 use types.Run.{OneOf, miss}
@@ -16,7 +16,6 @@ use Rattle.rules.specs.Limits.{keyCount, wordsPerField}
 use Rattle.rules.specs.Values.{below, natOf, Place}
 use Rattle.rules.specs.Kept.{kept}
 use Rattle.rules.specs.Step.{Allowed}
-use Rattle.rules.specs.Refusals as R
 use Rattle.rules.specs.Calls as C
 use Rattle.rules.proofs.Laws.{and-true}
 use Rattle.arguments.proofs.Numbers.{held, inside, inside-is, outside}
@@ -24,9 +23,7 @@ use Rattle.calls.specs.View.{viewCall}
 use Rattle.calls.specs.declared.Call.{Call}
 use Rattle.calls.specs.declared.Call.the-variants.{Load, Map, Begin, Read, Change, Commit, Abandon, Advance, Take, Apply, Delete, Cut, Sweep, Store, Report}
 use Rattle.calls.proofs.Call.{the-type}
-use Rattle.format.specs.Bytes.{newline, callWidth, answerLimit}
-use Rattle.format.specs.Columns.{isNegative, magnitude, column}
-use Rattle.format.specs.Lines.{Said, says, faulty, said, columns, answerLine}
+use Rattle.format.specs.Lines.{Said, says, faulty, said, answerLine}
 use Rattle.format.specs.Serving.{lentWords, placesShown, ended, performed}
 use Rattle.keys.specs.View.{viewKeys}
 use Rattle.plant.specs.View.{viewPlant, plantForm, keptPlant}
@@ -36,9 +33,8 @@ use Rattle.answers.specs.declared.Refusal.{Refusal}
 use Rattle.answers.specs.declared.Answer.{Answer}
 use Rattle.answers.specs.declared.Answer.the-variants as answer
 use Rattle.columns.specs.Printed.{printed}
-use Rattle.columns.proofs.ColumnLaws.{columns-long}
-use Rattle.printing.specs.Told.{numbersIn, taken}
-use Rattle.printing.proofs.LineLaws.{columns-length}
+use Rattle.printing.specs.Line.{longest, taken}
+use Rattle.printing.proofs.LineLaws.{line-short}
 use Rattle.lines.specs.View.{viewSaid}
 use Rattle.lines.specs.declared.Said as lines
 use Rattle.promises.specs.Promise.{chosen, result, Answers, Leaves, Keeps}
@@ -74,31 +70,6 @@ module _ (x : Call) (s k : ℤ) (e : x ≡ Read s k) (fits : SFits w64 k) (i : �
   its-places h l el n en = rw (e, inside k fits keyCount i ei h, inside-is k fits keyCount i ei h, en, el) refl
 
 -- ── the answer's line ──
-few-numbers : (a : Answer) → length (numbersIn (viewAnswer a)) ≤ 3
-few-numbers (answer.Refused r) = omega arith
-few-numbers answer.Done = omega arith
-few-numbers (answer.Begun n) = omega arith
-few-numbers (answer.Read m) = omega arith
-few-numbers (answer.Changed n) = omega arith
-few-numbers (answer.Committed n) = omega arith
-few-numbers (answer.Advanced t) = omega arith
-few-numbers (answer.Taken n) = omega arith
-few-numbers (answer.Applied r) = omega arith
-few-numbers (answer.Deleted b) = omega arith
-few-numbers (answer.Swept n) = omega arith
-few-numbers (answer.Reported a b c) = omega arith
-
-call-length : (z : ℤ) → length (column callWidth z) ≡ callWidth
-unfolding column
-call-length z = columns-long (isNegative z) callWidth (magnitude z)
-
-line-length : (a : C.Answer) (ws : List ℤ) → length (numbersIn a) ≤ 3 → length ws ≤ 32 → length (ended (answerLine a ws)) ≤ answerLimit
-unfolding answerLine
-line-length (C.refused r) ws h l = rw (length-append (column callWidth (pos (R.refusalNumber r))) (newline ∷ []), call-length (pos (R.refusalNumber r))) (omega arith)
-line-length (C.fine ns) ws h l =
-    rw (length-append (column callWidth (pos 0) ++ columns (map pos ns ++ ws)) (newline ∷ []), length-append (column callWidth (pos 0)) (columns (map pos ns ++ ws)), call-length (pos 0), columns-length (map pos ns ++ ws), length-append (map pos ns) ws, length-map ns pos)
-    (omega (arith, h, l))
-
 -- a line that fits is printed at the front
 fits-printed : (bs lent : List ℕ) → length bs ≤ length lent → printed bs lent ≡ bs ++ drop (length bs) lent
 unfolding printed
@@ -109,7 +80,7 @@ unfolding taken
 fits-taken bs lent h = rw (le-leb (length bs) (length lent) h) refl
 
 -- ── a call as a line asks for it ──
-module _ (p : Plant) (said : Said) (pick : C.Pick) (bs lent out : List ℕ) (len : ℕ) (room : answerLimit ≤ length lent) (short : length bs ≤ answerLimit)
+module _ (p : Plant) (said : Said) (pick : C.Pick) (bs lent out : List ℕ) (len : ℕ) (room : longest ≤ length lent) (short : length bs ≤ longest)
     (eo : out ≡ printed bs lent) (el : len ≡ taken bs lent) (eb : bs ≡ performed said pick (viewPlant p) .bytes) (allowed : Allowed pick (viewPlant p)) where
   fits : length bs ≤ length lent
   fits = omega (arith, room, short)
@@ -135,28 +106,28 @@ pub performs : (p q : Plant) (c : Call) (a : Answer) (ws : List ℤ) (n : ℕ) (
     → n ≡ wordsPerField * placesShown (viewCall c) (viewKeys (p .keys))
     → out ≡ printed (ended (answerLine (viewAnswer a) (take n ws))) lent → len ≡ taken (ended (answerLine (viewAnswer a) (take n ws))) lent
     → Leaves (viewCall c) p a q → Keeps (viewCall c) p a q
-    → answerLimit ≤ length lent → keptPlant p ≡ true → Answered (says (viewCall c)) p lent out len q
+    → longest ≤ length lent → keptPlant p ≡ true → Answered (says (viewCall c)) p lent out len q
 unfolding viewPlant
 performs p q c a ws n lent out len answers fills lw en eo el leaves keeps room k =
     answered p (says (viewCall c)) (chosen (viewPlant p)) (ended (answerLine (viewAnswer a) (take n ws))) lent out len room
-    (line-length (viewAnswer a) (take n ws) (few-numbers a) (rw (length-take n ws, lw) (omega arith)))
+    (line-short a (take n ws) (rw (length-take n ws, lw) (omega arith)))
     eo el (rw (answers k, fills k, en) refl) (allowed-here p k) q (leaves k lentWords (answers k)) (keeps k lentWords (answers k))
 
-pub refuses : (p : Plant) (r : Refusal) (lent out : List ℕ) (len : ℕ) (ws : List ℤ)
+pub refuses : (p : Plant) (r : Refusal) (lent out : List ℕ) (len : ℕ) (ws : List ℤ) → length ws ≤ 0
     → out ≡ printed (ended (answerLine (C.refused (viewRefusal r)) ws)) lent → len ≡ taken (ended (answerLine (C.refused (viewRefusal r)) ws)) lent
-    → answerLimit ≤ length lent → keptPlant p ≡ true → Answered (faulty (viewRefusal r)) p lent out len p
+    → longest ≤ length lent → keptPlant p ≡ true → Answered (faulty (viewRefusal r)) p lent out len p
 unfolding answerLine
-refuses p r lent out len ws eo el room k =
+refuses p r lent out len ws lw eo el room k =
     answered p (faulty (viewRefusal r)) (chosen (viewPlant p)) (ended (answerLine (C.refused (viewRefusal r)) ws)) lent out len room
-    (rw (length-append (column callWidth (pos (R.refusalNumber (viewRefusal r)))) (newline ∷ []), call-length (pos (R.refusalNumber (viewRefusal r)))) (omega arith)) eo el refl (allowed-here p k) p refl k
+    (line-short (answer.Refused r) ws (omega (arith, lw))) eo el refl (allowed-here p k) p refl k
 
 -- ── what a line says is done ──
-pub serves : (line lent out : List ℕ) (len : ℕ) (p q : Plant) (x y : lines.Said) → x ≡ y → viewSaid x ≡ said line → answerLimit ≤ length lent
-    → (answerLimit ≤ length lent → keptPlant p ≡ true → Answered (viewSaid y) p lent out len q)
-    → (answerLimit ≤ length lent → keptPlant p ≡ true → Answered (said line) p lent out len q) × (length lent < answerLimit → (q ≡ p) × ((len ≡ 0) × (out ≡ lent)))
+pub serves : (line lent out : List ℕ) (len : ℕ) (p q : Plant) (x y : lines.Said) → x ≡ y → viewSaid x ≡ said line → longest ≤ length lent
+    → (longest ≤ length lent → keptPlant p ≡ true → Answered (viewSaid y) p lent out len q)
+    → (longest ≤ length lent → keptPlant p ≡ true → Answered (said line) p lent out len q) × (length lent < longest → (q ≡ p) × ((len ≡ 0) × (out ≡ lent)))
 serves line lent out len p q x y e es room h =
     (λ r k. subst (λ s. Answered s p lent out len q) (ap viewSaid (sym e) ∙ es) (h r k), λ l. absurd (omega (arith, l, room)))
 
-pub too-few : (line lent : List ℕ) (p : Plant) (len : ℕ) → len ≡ 0 → length lent < answerLimit
-    → (answerLimit ≤ length lent → keptPlant p ≡ true → Answered (said line) p lent lent len p) × (length lent < answerLimit → (p ≡ p) × ((len ≡ 0) × (lent ≡ lent)))
+pub too-few : (line lent : List ℕ) (p : Plant) (len : ℕ) → len ≡ 0 → length lent < longest
+    → (longest ≤ length lent → keptPlant p ≡ true → Answered (said line) p lent lent len p) × (length lent < longest → (p ≡ p) × ((len ≡ 0) × (lent ≡ lent)))
 too-few line lent p len e h = (λ r k. absurd (omega (arith, r, h)), λ l. (refl, (e, refl)))

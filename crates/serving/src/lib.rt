@@ -4,21 +4,18 @@ ghost use mathlib.Core.Path.{_≡_};
 ghost use mathlib.Core.Bool.{true};
 ghost use lib.ListN.{length};
 ghost use Rattle.rules.specs.Limits.{wordsPerField};
-ghost use Rattle.format.specs.Bytes.{answerLimit};
 ghost use Rattle.format.specs.Lines.{says, said};
 ghost use Rattle.format.specs.Serving.{placesShown};
 ghost use Rattle.calls.specs.View.{viewCall};
 ghost use Rattle.keys.specs.View.{viewKeys};
 ghost use Rattle.plant.specs.View.{keptPlant};
+ghost use Rattle.printing.specs.Line.{longest};
 ghost use Rattle.serving.specs.Answered.{Answered};
 use answers::Answer;
 use calls::Call;
 use keys::Keys;
 use lines::Said;
 use plant::Plant;
-
-// The bytes of the longest answer line: a refusal or 0, three numbers at most, 32 words at most, and byte 10.
-pub const ANSWER_LIMIT: usize = 423;
 
 const WORDS_PER_FIELD: usize = 8;
 
@@ -48,7 +45,7 @@ fn shown(keys: Keys, c: Call) -> usize
 
 // A call as a line asks for it.
 fn perform(p: Plant, c: Call, out: &mut [u8]) -> Served
-    ensures { λ r. ⌜ (answerLimit ≤ length (now (out .entry)) → keptPlant p ≡ true → Answered (says (viewCall c)) p (now (out .entry)) (now (out .exit)) (r .len) (r .plant)) ⌝ }
+    ensures { λ r. ⌜ (longest ≤ length (now (out .entry)) → keptPlant p ≡ true → Answered (says (viewCall c)) p (now (out .entry)) (now (out .exit)) (r .len) (r .plant)) ⌝ }
 {
     let mut words = [0i32; WORDS];
     let answer = dispatch::answer(p, c, &mut words);
@@ -60,10 +57,10 @@ fn perform(p: Plant, c: Call, out: &mut [u8]) -> Served
 
 // Where too few bytes are lent for any answer nothing is done, and 0 bytes are printed.
 pub fn serve(p: Plant, line: &[u8], out: &mut [u8]) -> Served
-    ensures serves { λ r. ⌜ (answerLimit ≤ length (now (out .entry)) → keptPlant p ≡ true → Answered (said (now (line .entry))) p (now (out .entry)) (now (out .exit)) (r .len) (r .plant)) ⌝ }
-    ensures short { λ r. ⌜ (length (now (out .entry)) < answerLimit → (r .plant ≡ p) × ((r .len ≡ 0) × (now (out .exit) ≡ now (out .entry)))) ⌝ }
+    ensures serves { λ r. ⌜ (longest ≤ length (now (out .entry)) → keptPlant p ≡ true → Answered (said (now (line .entry))) p (now (out .entry)) (now (out .exit)) (r .len) (r .plant)) ⌝ }
+    ensures short { λ r. ⌜ (length (now (out .entry)) < longest → (r .plant ≡ p) × ((r .len ≡ 0) × (now (out .exit) ≡ now (out .entry)))) ⌝ }
 {
-    if out.len() < ANSWER_LIMIT {
+    if out.len() < printing::LONGEST {
         return Served { plant: p, len: 0 };
     }
     let said = lines::parse(line);

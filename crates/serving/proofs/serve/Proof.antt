@@ -1,5 +1,6 @@
 -- `serve` meets its contract.
 use mathlib.Core.Path.{refl}
+use native.Mathlib.Omega.{arith}
 use Rattle.serving.proofs.Laws.{too-few, serves, refuses}
 use borrow.Author.Needs.{needs}
 use Rattle.serving.proofs.serve.Statement.{statement}
@@ -39,7 +40,7 @@ same-length-2 c = search needs
 returns-3 : tie.Need-returns-3
 returns-3 c =
     serves _ _ _ (c .before .before .answer .result) (c .before .before .before .before .before .before .before .before .before .before .before .before .args .p) _ _ _ (c .before .before .before .before .before .before .said2 .given .1) (c .before .before .before .before .before .before .before .before .parse .ensures) (c .before .before .before .before .before .before .before .before .before .if1 .left)
-    (refuses (c .before .before .before .before .before .before .before .before .before .before .before .before .args .p) (c .before .before .before .before .before .before .said2 .given .0 .0) _ _ _ _ (c .before .before .answer .ensures .0) (c .before .before .answer .ensures .1))
+    (refuses (c .before .before .before .before .before .before .before .before .before .before .before .before .args .p) (c .before .before .before .before .before .before .said2 .given .0 .0) _ _ _ _ (omega arith) (c .before .before .answer .ensures .0) (c .before .before .answer .ensures .1))
 
 pub serve-spec : {M : Type 1} → statement M
 serve-spec =
