@@ -11,13 +11,13 @@ use mir.Syntax.{w64}
 use mir.Val.{SFits}
 use types.Run.{OneOf, miss}
 use denote.Enum.Declared.{tagOf}
-use borrow.Author.Tests.{le-leb}
+use borrow.Author.Tests.{le-leb, leb-true}
 use Rattle.rules.specs.Limits.{keyCount, wordsPerField}
 use Rattle.rules.specs.Values.{below, natOf, Place}
 use Rattle.rules.specs.Kept.{kept}
 use Rattle.rules.specs.Step.{Allowed}
 use Rattle.rules.specs.Calls as C
-use Rattle.rules.proofs.Laws.{and-true}
+use Rattle.rules.proofs.Laws.{and-true, byCase}
 use Rattle.arguments.proofs.Numbers.{held, inside, inside-is, outside}
 use Rattle.calls.specs.View.{viewCall}
 use Rattle.calls.specs.declared.Call.{Call}
@@ -79,6 +79,11 @@ fits-taken : (bs lent : List ℕ) → length bs ≤ length lent → taken bs len
 unfolding taken
 fits-taken bs lent h = rw (le-leb (length bs) (length lent) h) refl
 
+pub within : (bs lent : List ℕ) (len : ℕ) → len ≡ taken bs lent → len ≤ length lent
+unfolding taken
+within bs lent len e =
+    byCase (leb (length bs) (length lent)) (λ t. let n : len ≡ length bs = e ∙ rw t refl in omega (arith, n, leb-true (length bs) (length lent) t)) (λ t. let n : len ≡ 0 = e ∙ rw t refl in omega (arith, n))
+
 -- ── a call as a line asks for it ──
 module _ (p : Plant) (said : Said) (pick : C.Pick) (bs lent out : List ℕ) (len : ℕ) (room : longest ≤ length lent) (short : length bs ≤ longest)
     (eo : out ≡ printed bs lent) (el : len ≡ taken bs lent) (eb : bs ≡ performed said pick (viewPlant p) .bytes) (allowed : Allowed pick (viewPlant p)) where
@@ -122,12 +127,15 @@ refuses p r lent out len ws lw eo el room k =
     (line-short (answer.Refused r) ws (omega (arith, lw))) eo el refl (allowed-here p k) p refl k
 
 -- ── what a line says is done ──
-pub serves : (line lent out : List ℕ) (len : ℕ) (p q : Plant) (x y : lines.Said) → x ≡ y → viewSaid x ≡ said line → longest ≤ length lent
-    → (longest ≤ length lent → keptPlant p ≡ true → Answered (viewSaid y) p lent out len q)
-    → (longest ≤ length lent → keptPlant p ≡ true → Answered (said line) p lent out len q) × (length lent < longest → (q ≡ p) × ((len ≡ 0) × (out ≡ lent)))
-serves line lent out len p q x y e es room h =
-    (λ r k. subst (λ s. Answered s p lent out len q) (ap viewSaid (sym e) ∙ es) (h r k), λ l. absurd (omega (arith, l, room)))
+abbrev Promised : List ℕ → List ℕ → List ℕ → ℕ → Plant → Plant → Type 0
+Promised line lent out len p q =
+    (longest ≤ length lent → keptPlant p ≡ true → Answered (said line) p lent out len q)
+    × ((length lent < longest → (q ≡ p) × ((len ≡ 0) × (out ≡ lent))) × (len ≤ length lent))
 
-pub too-few : (line lent : List ℕ) (p : Plant) (len : ℕ) → len ≡ 0 → length lent < longest
-    → (longest ≤ length lent → keptPlant p ≡ true → Answered (said line) p lent lent len p) × (length lent < longest → (p ≡ p) × ((len ≡ 0) × (lent ≡ lent)))
-too-few line lent p len e h = (λ r k. absurd (omega (arith, r, h)), λ l. (refl, (e, refl)))
+pub serves : (line lent out : List ℕ) (len : ℕ) (p q : Plant) (x y : lines.Said) → x ≡ y → viewSaid x ≡ said line → longest ≤ length lent → len ≤ length lent
+    → (longest ≤ length lent → keptPlant p ≡ true → Answered (viewSaid y) p lent out len q) → Promised line lent out len p q
+serves line lent out len p q x y e es room l h =
+    (λ r k. subst (λ s. Answered s p lent out len q) (ap viewSaid (sym e) ∙ es) (h r k), (λ f. absurd (omega (arith, f, room)), l))
+
+pub too-few : (line lent : List ℕ) (p : Plant) (len : ℕ) → len ≡ 0 → length lent < longest → Promised line lent lent len p p
+too-few line lent p len e h = (λ r k. absurd (omega (arith, r, h)), (λ l. (refl, (e, refl)), omega (arith, e)))

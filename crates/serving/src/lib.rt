@@ -45,7 +45,8 @@ fn shown(keys: Keys, c: Call) -> usize
 
 // A call as a line asks for it.
 fn perform(p: Plant, c: Call, out: &mut [u8]) -> Served
-    ensures { λ r. ⌜ (longest ≤ length (now (out .entry)) → keptPlant p ≡ true → Answered (says (viewCall c)) p (now (out .entry)) (now (out .exit)) (r .len) (r .plant)) ⌝ }
+    ensures serves { λ r. ⌜ (longest ≤ length (now (out .entry)) → keptPlant p ≡ true → Answered (says (viewCall c)) p (now (out .entry)) (now (out .exit)) (r .len) (r .plant)) ⌝ }
+    ensures within { λ r. ⌜ r .len ≤ length (now (out .entry)) ⌝ }
 {
     let mut words = [0i32; WORDS];
     let answer = dispatch::answer(p, c, &mut words);
@@ -59,6 +60,7 @@ fn perform(p: Plant, c: Call, out: &mut [u8]) -> Served
 pub fn serve(p: Plant, line: &[u8], out: &mut [u8]) -> Served
     ensures serves { λ r. ⌜ (longest ≤ length (now (out .entry)) → keptPlant p ≡ true → Answered (said (now (line .entry))) p (now (out .entry)) (now (out .exit)) (r .len) (r .plant)) ⌝ }
     ensures short { λ r. ⌜ (length (now (out .entry)) < longest → (r .plant ≡ p) × ((r .len ≡ 0) × (now (out .exit) ≡ now (out .entry)))) ⌝ }
+    ensures within { λ r. ⌜ r .len ≤ length (now (out .entry)) ⌝ }
 {
     if out.len() < printing::LONGEST {
         return Served { plant: p, len: 0 };

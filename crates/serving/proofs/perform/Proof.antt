@@ -1,5 +1,5 @@
 -- `perform` meets its contract.
-use Rattle.serving.proofs.Laws.{performs}
+use Rattle.serving.proofs.Laws.{performs, within}
 use borrow.Author.Needs.{needs}
 use Rattle.serving.proofs.perform.Statement.{statement}
 use Rattle.serving.proofs.perform.Tie as tie
@@ -26,9 +26,11 @@ same-length : tie.Need-same-length
 same-length c = search needs
 
 returns : tie.Need-returns
-returns c =
-    performs (c .before .before .before .before .before .before .before .before .before .before .before .args .p) (c .after .result) (c .before .before .before .before .before .before .before .before .before .before .before .args .c) (c .before .before .before .before .before .before .before .before .answer .result) _ _ _ _ _ (c .before .before .before .before .before .before .before .before .answer .ensures .0) (c .before .before .before .before .before .before .before .before .answer .ensures .1) (search needs) (c .before .before .before .before .before .before .shown .ensures)
-    (c .before .before .before .answer2 .ensures .0) (c .before .before .before .answer2 .ensures .1) (c .after .ensures .0) (c .after .ensures .1 .1)
+returns c = (
+  performs (c .before .before .before .before .before .before .before .before .before .before .before .args .p) (c .after .result) (c .before .before .before .before .before .before .before .before .before .before .before .args .c) (c .before .before .before .before .before .before .before .before .answer .result) _ _ _ _ _ (c .before .before .before .before .before .before .before .before .answer .ensures .0) (c .before .before .before .before .before .before .before .before .answer .ensures .1) (search needs) (c .before .before .before .before .before .before .shown .ensures)
+      (c .before .before .before .answer2 .ensures .0) (c .before .before .before .answer2 .ensures .1) (c .after .ensures .0) (c .after .ensures .1 .1),
+  within _ _ _ (c .before .before .before .answer2 .ensures .1),
+)
 
 pub perform-spec : {M : Type 1} → statement M
 perform-spec =
