@@ -3,13 +3,16 @@ use Prim.Native.Nat.{_+_, _-_, _<_, _≤_, min, suc, zero, ℕ}
 use native.Mathlib.Numerals.{add-one}
 use native.Mathlib.Omega.{arith}
 use mathlib.Core.Path.{_≡_, _∙_, ap, refl, sym}
-use mathlib.Core.Bool.{true}
+use mathlib.Core.Bool.{true, false}
 use mathlib.Core.List.{List, [], _++_, _∷_}
 use lib.ListN.{drop, getD, length, length-drop, length-take, set, take}
 use lib.Seq.{getD-drop, length-take-le, paste, paste-suc, paste-zero, take-all, take-append-add, take-paste, take-take}
 use lib.Dec.{leb}
 use borrow.Author.Tests.{le-leb, leb-false, leb-true}
+use Rattle.rules.specs.Lists.{isEmpty}
 use Rattle.rules.proofs.Laws.{byCase}
+use Rattle.pending.specs.View.{viewPending}
+use Rattle.pending.specs.declared.Pending.{Pending}
 
 module _ {A : Type 0} where
   take-min : (m : ℕ) (l : List A) → take (min m (length l)) l ≡ take m l
@@ -85,3 +88,17 @@ module _ {k : ℕ} {line piece : List ℕ} {len at from to n : ℕ} where
 
     pub add-within : leb (at + n) k ≡ true
     add-within = le-leb (at + n) k (omega (arith, inv .kept, inv .count))
+
+-- ── whether nothing is kept ──
+some-taken : (n : ℕ) (l : List ℕ) → (n ≡ 0 → ⊥) → 0 < length l → isEmpty (take n l) ≡ false
+some-taken zero l h g = absurd (h refl)
+some-taken (suc n) [] h g = absurd (omega (arith, g))
+some-taken (suc n) (b ∷ l) h g = refl
+
+pub none-kept : (t : Pending) → t .len ≡ 0 → true ≡ isEmpty (viewPending t)
+unfolding viewPending
+none-kept t e = rw e refl
+
+pub some-kept : (t : Pending) → (t .len ≡ 0 → ⊥) → length (t .line) ≡ 123 → false ≡ isEmpty (viewPending t)
+unfolding viewPending
+some-kept t h l = sym (some-taken (t .len) (t .line) h (omega (arith, l)))

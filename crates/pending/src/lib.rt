@@ -4,6 +4,7 @@ ghost use mathlib.Core.Path.{_≡_};
 ghost use mathlib.Core.Bool.{true};
 ghost use mathlib.Core.List.{[], _++_};
 ghost use lib.ListN.{take};
+ghost use Rattle.rules.specs.Lists.{isEmpty};
 ghost use Rattle.format.specs.Bytes.{lineLimit};
 ghost use Rattle.pending.specs.View.{viewPending, pendingForm, endFrom, between};
 
@@ -44,6 +45,15 @@ impl Pending {
             line: [0; Pending::LIMIT],
             len: 0,
         }
+    }
+
+    pub fn is_empty(self) -> bool
+        ensures { λ r. ⌜ r ≡ isEmpty (viewPending self) ⌝ }
+    {
+        if self.len == 0 {
+            return true;
+        }
+        false
     }
 
     // The bytes of a piece from one position up to another put last, as far as there is room.

@@ -1,0 +1,268 @@
+-- What a server is made of: the line that a piece ends, and the pieces.
+use Prim.Native.Nat.{ℕ, suc, zero, _≤_, _<_, _+_, _-_}
+use native.Mathlib.Omega.{arith}
+use mathlib.Core.Path.{_≡_, refl, sym, _∙_, ap, subst}
+use mathlib.Core.Bool.{Bool, true, false, not, _&&_, true≢false}
+use mathlib.Core.List.{List, [], _++_, _∷_, append-assoc, append-nil}
+use lib.ListN.{length, take, drop, length-drop, length-take}
+use lib.Dec.{leb}
+use lib.Seq.{length-take-le, take-all, take-at, drop-at, take-append-add}
+use borrow.Rule.Slice.PartMut.{putMid, postOf, take-put}
+use borrow.Author.Tests.{le-leb, leb-true}
+use Rattle.rules.specs.Lists.{isEmpty}
+use Rattle.rules.proofs.Laws.{byCase, and-true}
+use Rattle.format.specs.Bytes.{newline, lineLimit}
+use Rattle.format.specs.Lines.{said}
+use Rattle.format.specs.Serving.{Serves, performed, serve}
+use Rattle.format.specs.Feeding.{hasEnd, complete, unended, lastLine, Feeds}
+use Rattle.format.proofs.Short.{short}
+use Rattle.format.proofs.Cutting.{complete-none, unended-all, end-complete, end-unended}
+use Rattle.format.proofs.Feeding.{feeds-free, feeds-append}
+use Rattle.printing.specs.Line.{longest}
+use Rattle.plant.specs.View.{viewPlant, keptPlant}
+use Rattle.plant.specs.declared.Plant.{Plant}
+use Rattle.pending.specs.View.{viewPending, pendingForm, between, endFrom}
+use Rattle.pending.proofs.Ending.{end-at, end-within, end-front, end-found, end-none, none-complete, none-unended}
+use Rattle.pending.specs.declared.Pending.{Pending}
+use Rattle.serving.specs.Answered.{Answered}
+use Rattle.feeding.specs.Fed.{keptServer, Within, Ready, Next, Fed, Finished}
+use Rattle.feeding.specs.declared.Server.{Server}
+
+pub kept-start : (p : Plant) (t : Pending) (n m : ℕ) → keptPlant p ≡ true → viewPending t ≡ [] → keptServer (record { plant = p; pending = t; used = n; wrote = m }) ≡ true
+unfolding keptServer
+kept-start p t n m k e = rw (k, e) refl
+
+-- ── the line ──
+pub kept-fits : (t : Pending) → pendingForm t ≡ true → length (t .line) ≡ lineLimit → t .len ≤ length (t .line)
+unfolding pendingForm
+kept-fits t f l = omega (arith, l, leb-true (t .len) lineLimit f)
+
+pub kept-count : (t : Pending) → pendingForm t ≡ true → length (t .line) ≡ lineLimit → t .len ≡ length (take (t .len) (t .line))
+kept-count t f l = sym (length-take-le (t .len) (t .line) (kept-fits t f l))
+
+abbrev Says : List ℕ → Plant → List ℕ → List ℕ → ℕ → Plant → Type 0
+Says line p lent out len q = longest ≤ length lent → keptPlant p ≡ true → Answered (said line) p lent out len q
+
+module _ (p q : Plant) (kept : Pending) (piece lent out : List ℕ) (from to len : ℕ) where
+  pub all-in-piece : kept .len ≡ 0 → Says (between from to piece) p lent out len q → Says (viewPending kept ++ between from to piece) p lent out len q
+  unfolding viewPending
+  all-in-piece e h r k = rw e (h r k)
+
+  pub kept-and-piece : (whole : Pending) → viewPending whole ≡ take lineLimit (viewPending kept ++ between from to piece) → Says (take (whole .len) (whole .line)) p lent out len q
+      → Says (viewPending kept ++ between from to piece) p lent out len q
+  unfolding viewPending
+  kept-and-piece whole e h r k =
+      subst (λ s. Answered s p lent out len q) (ap said e ∙ short (viewPending kept ++ between from to piece)) (h r k)
+
+-- ── one line more, or the rest of the piece ──
+record Kept (s : Server) : Type 0 where
+  plant : keptPlant (s .plant) ≡ true
+  free : hasEnd (viewPending (s .pending)) ≡ false
+  short : length (viewPending (s .pending)) ≤ lineLimit
+
+opened : (s : Server) → keptServer s ≡ true → Kept s
+unfolding keptServer
+opened s k =
+    let v = viewPending (s .pending) in
+    let x = and-true (keptPlant (s .plant)) (not (hasEnd v) && leb (length v) lineLimit) k in
+    let y = and-true (not (hasEnd v)) (leb (length v) lineLimit) (x .1) in
+    record { plant = x .0; free = byCase (hasEnd v) (λ t. absurd (true≢false (sym (rw t at y .0)))) (λ t. t); short = leb-true (length v) lineLimit (y .1) }
+
+closed : (s : Server) → Kept s → keptServer s ≡ true
+unfolding keptServer
+closed s k = rw (k .plant, k .free, le-leb (length (viewPending (s .pending))) lineLimit (k .short)) refl
+
+short-take : (l : List ℕ) → length (take lineLimit l) ≤ lineLimit
+short-take l = simp length-take (omega arith)
+
+nothing-between : (n : ℕ) (l : List ℕ) → between n n l ≡ []
+nothing-between n l = let e : n - n ≡ 0 = omega arith in rw e refl
+
+module _ (s : Server) (piece lent : List ℕ) (end : ℕ) (ee : end ≡ endFrom (s .used) piece) (ready : Ready s piece lent) where
+  within-piece : end ≤ length piece
+  within-piece = rw ee (end-within (s .used) piece)
+
+  after-used : s .used ≤ end
+  after-used = let r = ready .0 in rw ee (end-at (s .used) piece (omega arith))
+
+  pub line-inside : (s .used ≤ end) × (end ≤ length piece)
+  line-inside = (after-used, within-piece)
+
+  abbrev u : List ℕ
+  u = viewPending (s .pending)
+
+  abbrev rest : List ℕ
+  rest = between (s .used) end piece
+
+  -- the piece ends no line more
+  module _ (none : length piece ≤ end) (kept : Pending) (ek : viewPending kept ≡ take lineLimit (u ++ rest)) where
+    abbrev unanswered : Server
+    unanswered = record { plant = s .plant; pending = kept; used = end; wrote = s .wrote }
+
+    pub no-line : (keptServer s ≡ true → Next s piece lent lent unanswered) × ((Within unanswered piece lent) × (s .used < end))
+    no-line =
+        let r = ready in
+        let n : length piece ≤ endFrom (s .used) piece = rw (← ee) none in (
+          λ k.
+              let o = opened s k in
+              let h = o .free in
+              let all : rest ≡ drop (s .used) piece = rw ee (end-none (s .used) piece n) in
+              let whole : unended (u ++ rest) ≡ u ++ rest = ap (λ l. unended (u ++ l)) all ∙ none-unended u h (s .used) piece n ∙ rw (← ee) refl in
+              let f : Feeds u (viewPlant (s .plant)) rest [] (viewPending kept) (viewPlant (s .plant)) =
+              record { serves = subst (λ ls. Serves ls (viewPlant (s .plant)) [] (viewPlant (s .plant))) (sym (ap (λ l. complete (u ++ l)) all ∙ none-complete u h (s .used) piece n)) (refl, refl); keeps = ek ∙ ap (take lineLimit) (sym whole) } in
+              record {
+                feeds = subst (λ o. Feeds u (viewPlant (s .plant)) rest o (viewPending kept) (viewPlant (s .plant))) (sym (nothing-between (s .wrote) lent)) f;
+                before = refl;
+                upwards = (after-used, omega arith);
+                keeps = closed unanswered (record { plant = o .plant; free = feeds-free u rest [] (viewPending kept) (viewPlant (s .plant)) (viewPlant (s .plant)) f; short = rw ek (short-take (u ++ rest)) });
+              },
+          ((within-piece, omega (arith, r .1)), omega (arith, r .0, none)),
+        )
+
+  -- byte 10 ends a line
+  module _ (found : end < length piece) (q : Plant) (kept : Pending) (ek : viewPending kept ≡ []) (len : ℕ) (part : List ℕ) where
+    abbrev room : List ℕ
+    room = take (length lent - s .wrote) (drop (s .wrote) lent)
+
+    abbrev out : List ℕ
+    out = putMid (s .wrote) (length lent - s .wrote) lent part
+
+    abbrev answered : Server
+    answered = record { plant = q; pending = kept; used = end + 1; wrote = s .wrote + len }
+
+    room-is : room ≡ drop (s .wrote) lent
+    room-is = let l : length (drop (s .wrote) lent) ≤ length lent - s .wrote = simp length-drop (omega arith) in take-all (length lent - s .wrote) (drop (s .wrote) lent) l
+
+    room-long : longest ≤ length room
+    room-long = let r = ready .1 in rw room-is (simp length-drop (omega arith))
+
+    ended-line : between (s .used) (end + 1) piece ≡ rest ++ (newline ∷ [])
+    ended-line =
+        let f : endFrom (s .used) piece < length piece = rw (← ee) found in
+        let a = after-used in
+        let e : drop (s .used) piece ≡ rest ++ (newline ∷ drop (end + 1) piece) = rw ee (end-found (s .used) piece f) in
+        let w : length rest ≡ end - s .used = length-take-le (end - s .used) (drop (s .used) piece) (simp length-drop (omega (arith, found))) in
+        let n : end + 1 - s .used ≡ length rest + 1 = omega (arith, w, a) in
+        ap (λ m. take m (drop (s .used) piece)) n ∙ ap (take (length rest + 1)) e ∙ take-append-add rest (newline ∷ drop (end + 1) piece) 1
+
+    pub more-wrote : len ≤ length room → s .wrote + len ≤ length lent
+    more-wrote l =
+        let r = ready .1 in
+        let m : length room ≡ length lent - s .wrote = rw room-is (length-drop (s .wrote) lent) in
+        omega (arith, l, m, r)
+
+    pub one-line : (longest ≤ length room → keptPlant (s .plant) ≡ true → Answered (said (u ++ rest)) (s .plant) room part len q) → len ≤ length room
+        → (keptServer s ≡ true → Next s piece lent out answered) × ((Within answered piece lent) × (s .used < end + 1))
+    unfolding serve
+    one-line h l =
+        let r = ready in
+        let a = after-used in
+        let m : length room ≡ length lent - s .wrote = rw room-is (length-drop (s .wrote) lent) in (
+          λ k.
+              let o = opened s k in
+              let x = h room-long (o .plant) in
+              let bs = performed (said (u ++ rest)) (x .pick) (viewPlant (s .plant)) .bytes in
+              let b = o .free in
+              let front : hasEnd rest ≡ false = rw ee (end-front (s .used) piece) in
+              let at : take (s .wrote) out ≡ take (s .wrote) lent = take-put (s .wrote) (length lent - s .wrote) lent part (omega (arith, r .1)) in
+              let post = postOf (s .wrote) (length lent - s .wrote) lent in
+              let past : drop (s .wrote) out ≡ bs ++ (drop len room ++ post) =
+              drop-at (take (s .wrote) lent) (part ++ post) (s .wrote) (length-take-le (s .wrote) lent (omega (arith, r .1)))
+              ∙ ap (λ o. o ++ post) (x .prints) ∙ append-assoc bs (drop len room) post in
+              let n : s .wrote + len - s .wrote ≡ len = omega arith in
+              let filled : between (s .wrote) (s .wrote + len) out ≡ bs = ap (λ m. take m (drop (s .wrote) out)) n ∙ ap (take len) past ∙ take-at bs (drop len room ++ post) len (sym (x .counts)) in
+              let f : Feeds u (viewPlant (s .plant)) (rest ++ (newline ∷ [])) bs [] (viewPlant q) =
+              record {
+                serves = subst (λ ls. Serves ls (viewPlant (s .plant)) bs (viewPlant q)) (sym (end-complete u rest b front [])) (x .pick, (x .allowed, ([], (sym (append-nil bs), (refl, x .leaves)))));
+                keeps = sym (ap (take lineLimit) (end-unended u rest b front []));
+              } in
+              record {
+                feeds = rw (ended-line, filled, ek) f;
+                before = at;
+                upwards = (omega (arith, a), omega arith);
+                keeps = closed answered (record { plant = x .keeps; free = rw ek refl; short = rw ek (omega arith) });
+              },
+          ((omega (arith, found), omega (arith, l, m, r .1)), omega (arith, a)),
+        )
+
+-- ── the pieces of a piece ──
+pub record Feeding (piece lent : List ℕ) (s : Server) (out : List ℕ) (t : Server) : Type 0 where
+  pub long : length out ≡ length lent
+  pub within : Within t piece lent
+  pub fed : keptServer s ≡ true → Fed s piece out t
+
+take-between : (a b : ℕ) (l : List ℕ) → a ≤ b → take b l ≡ take a l ++ between a b l
+take-between zero b l h = let e : b - 0 ≡ b = omega arith in rw e refl
+take-between (suc a) zero l h = absurd (omega (arith, h))
+take-between (suc a) (suc b) [] h = sym (take-all (suc b - suc a) [] (omega arith))
+take-between (suc a) (suc b) (x ∷ l) h = let e : suc b - suc a ≡ b - a = omega arith in rw e (ap (λ m. x ∷ m) (take-between a b l (omega (arith, h))))
+
+pub feed-start : (p : Plant) (kept : Pending) (piece lent : List ℕ)
+    → Feeding piece lent (record { plant = p; pending = kept; used = 0; wrote = 0 }) lent (record { plant = p; pending = kept; used = 0; wrote = 0 })
+feed-start p kept piece lent =
+    let s : Server = record { plant = p; pending = kept; used = 0; wrote = 0 } in
+    record {
+      long = refl;
+      within = (omega arith, omega arith);
+      fed = λ k.
+          let o = opened s k in
+          let v = viewPending kept in
+          record {
+            feeds = record {
+              serves = subst (λ ls. Serves ls (viewPlant p) [] (viewPlant p)) (sym (ap complete (append-nil v) ∙ complete-none v (o .free))) (refl, refl);
+              keeps = sym (ap (λ l. take lineLimit (unended l)) (append-nil v) ∙ ap (take lineLimit) (unended-all v (o .free)) ∙ take-all lineLimit v (o .short));
+            };
+            keeps = k;
+          };
+    }
+
+pub feed-next : (piece lent out out′ : List ℕ) (s t r : Server) → Feeding piece lent s out t → length out′ ≡ length out
+    → (keptServer t ≡ true → Next t piece out out′ r) → Within r piece out → Feeding piece lent s out′ r
+feed-next piece lent out out′ s t r f l n w =
+    let e = f .long in
+    record {
+      long = l ∙ e;
+      within = (w .0, rw (← e) (w .1));
+      fed = λ k.
+          let x = f .fed k in
+          let y = n (x .keeps) in
+          record {
+            feeds =
+                rw (take-between (t .used) (r .used) piece (y .upwards .0), take-between (t .wrote) (r .wrote) out′ (y .upwards .1), y .before)
+                (feeds-append (viewPending (s .pending)) (take (t .used) piece) (between (t .used) (r .used) piece) (take (t .wrote) out) (between (t .wrote) (r .wrote) out′) (viewPending (t .pending)) (viewPending (r .pending)) (viewPlant (s .plant)) (viewPlant (t .plant)) (viewPlant (r .plant)) (x .feeds) (y .feeds));
+            keeps = y .keeps;
+          };
+    }
+
+-- the server that a piece was taken from began with nothing used
+pub feed-end : (s : Server) (piece lent out : List ℕ) (t : Server) → Feeding piece lent (record { plant = s .plant; pending = s .pending; used = 0; wrote = 0 }) out t
+    → (keptServer s ≡ true → Fed s piece out t) × Within t piece lent
+feed-end s piece lent out t f = (
+  λ k.
+      let o = opened s k in
+      let x = f .fed (closed (record { plant = s .plant; pending = s .pending; used = 0; wrote = 0 }) (record { plant = o .plant; free = o .free; short = o .short })) in
+      record { feeds = x .feeds; keeps = x .keeps },
+  f .within,
+)
+
+-- ── the end of input ──
+module _ (s : Server) (e : Bool) (ee : e ≡ isEmpty (viewPending (s .pending))) where
+  pub no-last : e ≡ true → (lent : List ℕ) → (longest ≤ length lent → keptServer s ≡ true → Finished s lent (record { plant = s .plant; pending = s .pending; used = 0; wrote = 0 }))
+  no-last t lent r k = record { serves = rw (← ee, t) (refl, refl); keeps = opened s k .plant }
+
+  pub last-line : e ≡ false → (lent out none : List ℕ) (len : ℕ) (q : Plant) (kept : Pending)
+      → (longest ≤ length lent → keptPlant (s .plant) ≡ true → Answered (said (viewPending (s .pending) ++ between 0 0 none)) (s .plant) lent out len q)
+      → longest ≤ length lent → keptServer s ≡ true → Finished s out (record { plant = q; pending = kept; used = 0; wrote = len })
+  unfolding serve
+  last-line t lent out none len q kept h r k =
+      let v = viewPending (s .pending) in
+      let x = h r (opened s k .plant) in
+      let bs = performed (said (v ++ between 0 0 none)) (x .pick) (viewPlant (s .plant)) .bytes in
+      let w : v ++ between 0 0 none ≡ v = ap (λ m. v ++ m) (nothing-between 0 none) ∙ append-nil v in
+      let filled : take len out ≡ bs = ap (take len) (x .prints) ∙ take-at bs (drop len lent) len (sym (x .counts)) in
+      let one : Serves ((v ++ between 0 0 none) ∷ []) (viewPlant (s .plant)) (take len out) (viewPlant q) = (x .pick, (x .allowed, ([], (filled ∙ sym (append-nil bs), (refl, x .leaves))))) in
+      let last : lastLine v ≡ v ∷ [] = rw (← ee, t) refl in
+      record {
+        serves = subst (λ ls. Serves ls (viewPlant (s .plant)) (take len out) (viewPlant q)) (ap (λ m. m ∷ []) w ∙ sym last) one;
+        keeps = x .keeps;
+      }

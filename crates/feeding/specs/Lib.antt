@@ -1,0 +1,2 @@
+-- What a server promises.
+pub mod Fed
