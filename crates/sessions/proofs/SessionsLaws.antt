@@ -5,7 +5,8 @@ use mathlib.Core.Path.{_≡_, refl, sym, _∙_, ap, fun-ext}
 use mathlib.Core.Bool.{Bool, true, false, not, cond, _||_}
 use mathlib.Core.List.{List, [], _∷_, map, map-id}
 use lib.Dec.{eqb, ltb}
-use lib.ListN.{length, getD, set}
+use lib.ListN.{length, getD, set, length-set}
+use lib.Seq.{set-getD}
 use borrow.Author.Tests.{eq-eqb, ne-eqb, le-leb, lt-leb}
 use Rattle.rules.specs.Limits.{documentCount}
 use Rattle.rules.specs.Lists.{any, pushed}
@@ -73,31 +74,45 @@ pub push-form : (t : Sessions) (s : Session) → t .count < 8 → sessionForm s 
 unfolding sessionsForm
 push-form t s h e f = form-push 8 sessionForm isUnused (t .count) (t .slots) s h e f
 
--- ── the slots but for that of n ──
-pub record Freeing (n : ℕ) (t u : Sessions) (i : ℕ) : Type 0 where
-  pub kept : Keeping viewSlot (λ s. not (eqb n (s .number))) (t .count) 8 (t .slots) (M.freed n (viewSessions t)) (viewSessions u) i
-  pub form : sessionsForm t ≡ true → sessionsForm u ≡ true
+-- ── the slots but for that of n, which are the first k of the new table u ──
+abbrev firsts : Sessions → ℕ → Sessions
+firsts u k = record { count = k; slots = u .slots }
 
-pub free-start : {n : ℕ} {t u : Sessions} → length (t .slots) ≡ 8 → viewSessions u ≡ [] → sessionsForm u ≡ true → Freeing n t u 0
+pub record Freeing (n : ℕ) (t u : Sessions) (k i : ℕ) : Type 0 where
+  pub long : length (u .slots) ≡ 8
+  pub few : k ≤ i
+  pub kept : Keeping viewSlot (λ s. not (eqb n (s .number))) (t .count) 8 (t .slots) (M.freed n (viewSessions t)) (viewSessions (firsts u k)) i
+  pub form : sessionsForm t ≡ true → sessionsForm (firsts u k) ≡ true
+
+pub free-start : {n : ℕ} {t : Sessions} (u : Sessions) → length (t .slots) ≡ 8 → length (u .slots) ≡ 8 → viewSessions u ≡ [] → sessionsForm u ≡ true → Freeing n t u 0 0
 unfolding viewSessions
-free-start l e f = record { kept = keep-start l e; form = λ h. f }
+free-start u l m e f =
+    let q : min (u .count) 8 ≡ 0 = sym (counted-length viewSlot (u .count) (u .slots) 8 m) ∙ ap length e in
+    let z : 0 ≡ u .count = omega arith in
+    record { long = m; few = omega arith; kept = keep-start l (none-shown (u .slots)); form = λ h. ap (λ (k : ℕ). sessionsForm (firsts u k)) z ∙ f }
 
-module _ {n : ℕ} {t u : Sessions} {i : ℕ} (inv : Freeing n t u i) where
-  pub free-own : (d : Session) (r : Sessions) → i < min (t .count) 8 → n ≡ getD (t .slots) i d .number → r ≡ u → Freeing n t r (i + 1)
+module _ {n : ℕ} {t u : Sessions} {k i : ℕ} (inv : Freeing n t u k i) (d : Session) (r : Sessions) (m : ℕ) (h : i < min (t .count) 8) where
+  pub free-own : n ≡ getD (t .slots) i d .number → r ≡ u → m ≡ k → Freeing n t r m (i + 1)
   unfolding viewSlot
-  free-own d r h e q = record { kept = keep-next (inv .kept) d (omega arith) (omega arith) (ap viewSessions q ∙ rw (eq-eqb n (getD (t .slots) i d .number) e)); form = λ f. rw q (inv .form f) }
+  free-own e p q =
+      rw (p, q)
+      (record { long = inv .long; few = omega (arith, inv .few); kept = keep-next (inv .kept) d (omega arith) (omega arith) (rw (eq-eqb n (getD (t .slots) i d .number) e)); form = inv .form })
 
-  pub free-other : (d : Session) (x r : Sessions) → i < min (t .count) 8 → (n ≡ getD (t .slots) i d .number → ⊥) → viewSessions x ≡ pushed 8 (viewSessions u) (viewSlot (getD (t .slots) i d))
-      → (sessionForm (getD (t .slots) i d) ≡ true → sessionsForm u ≡ true → sessionsForm x ≡ true) → r ≡ x → Freeing n t r (i + 1)
+  pub free-other : (n ≡ getD (t .slots) i d .number → ⊥) → r ≡ record { count = u .count; slots = set (u .slots) k (getD (t .slots) i d) } → m ≡ k + 1 → Freeing n t r m (i + 1)
   unfolding viewSlot
-  free-other d x r h e p f q =
-      record {
-        kept = keep-next (inv .kept) d (omega arith) (omega arith) (ap viewSessions q ∙ p ∙ rw (ne-eqb n (getD (t .slots) i d .number) e));
-        form = λ g. rw q (f (slot-form t i d (omega arith) g) (inv .form g));
-      }
+  free-other e p q =
+      let s = getD (t .slots) i d in
+      let b : k < 8 = omega (arith, inv .few) in
+      rw (p, q)
+      (record {
+        long = length-set (u .slots) k s ∙ inv .long;
+        few = omega (arith, inv .few);
+        kept = keep-next (inv .kept) d (omega arith) (omega arith) (slot-room (firsts u k) s (inv .long) b ∙ rw (ne-eqb n (s .number) e));
+        form = λ g. push-form (firsts u k) s b (slot-form t i d (omega arith) g) (inv .form g);
+      })
 
-  pub free-done : min (t .count) 8 ≤ i → viewSessions u ≡ M.freed n (viewSessions t)
-  free-done h = keep-done (inv .kept) h
+pub free-done : {n : ℕ} {t u : Sessions} {k i : ℕ} → Freeing n t u k i → min (t .count) 8 ≤ i → viewSessions (firsts u k) ≡ M.freed n (viewSessions t)
+free-done inv h = keep-done (inv .kept) h
 
 -- ── room ──
 module _ (t : Sessions) (l : length (t .slots) ≡ 8) where
@@ -134,6 +149,16 @@ module _ {F : Type 0} {g : M.Slot → M.Slot} {t r : Sessions} {i : ℕ} (inv : 
         slots = remake-here (inv .slots) d (omega arith) e;
         form = λ a. form-set 8 sessionForm isUnused (r .count) (r .slots) i s m (f a (slot-form r i d m (inv .form a))) (inv .form a);
       }
+
+  -- the same where u is what a test left: the slot written, or as it was
+  pub make-new : (d s : Session) (u : Sessions) → i < min (t .count) 8 → viewSlot s ≡ g (viewSlot (getD (r .slots) i d)) → (F → sessionForm (getD (r .slots) i d) ≡ true → sessionForm s ≡ true)
+      → u ≡ record { count = r .count; slots = set (r .slots) i s } → Making F g t u (i + 1)
+  make-new d s u h e f q = rw q (make-next d s h e f)
+
+  pub make-same : (d : Session) (u : Sessions) → i < min (t .count) 8 → viewSlot (getD (r .slots) i d) ≡ g (viewSlot (getD (r .slots) i d)) → u ≡ r → Making F g t u (i + 1)
+  make-same d u h e q =
+      rw q
+      (record { count = inv .count; slots = rw (set-getD (r .slots) i d) at (remake-here (inv .slots) d (omega arith) e); form = inv .form })
 
   pub make-end : min (t .count) 8 ≤ i → viewSessions r ≡ map g (viewSessions t)
   unfolding viewSessions

@@ -154,13 +154,16 @@ impl Sessions {
     {
         let end = Self::used(self.count);
         let mut kept = Self::empty();
+        let mut k: usize = 0;
         let mut i: usize = 0;
         while i < end {
             if n != self.slots[i].number {
-                kept = kept.push(self.slots[i]);
+                kept.slots[k] = self.slots[i];
+                k += 1;
             }
             i += 1;
         }
+        kept.count = k as u8;
         kept
     }
 
@@ -225,8 +228,10 @@ impl Sessions {
         let mut t = self;
         let mut i: usize = 0;
         while i < end {
-            let s = t.slots[i].lapsed(clock);
-            t.slots[i] = s;
+            if t.slots[i].lapses(clock) {
+                let s = t.slots[i].doom();
+                t.slots[i] = s;
+            }
             i += 1;
         }
         t

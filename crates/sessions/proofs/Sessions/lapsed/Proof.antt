@@ -2,12 +2,14 @@
 use borrow.Author.Needs.{needs}
 use Prim.Native.Nat.{_-_}
 use Rattle.lists.proofs.Loops.{length-mapped}
+use mathlib.Core.Logic.{⊎-elim}
 use mathlib.Core.Path.{_≡_}
 use mathlib.Core.Bool.{true}
 use Rattle.sessions.specs.Form.{sessionsForm}
 use Rattle.rules.specs.Tables.{remade}
 use Rattle.rules.specs.Effects.{lapse}
-use Rattle.sessions.proofs.SessionsLaws.{Making, make-start, make-next, make-end}
+use Rattle.session.proofs.LapseLaws.{lapsed-now, lapsed-not}
+use Rattle.sessions.proofs.SessionsLaws.{Making, make-start, make-new, make-same, make-end}
 use Rattle.sessions.proofs.Sessions.lapsed.Statement.{statement}
 use Rattle.sessions.proofs.Sessions.lapsed.Tie as tie
 
@@ -23,14 +25,23 @@ used-requires c κs = search needs
 loop-holds : tie.Need-loop-holds Inv-loop μ-loop
 loop-holds c = make-start (search (length-mapped, needs)) (λ h. h)
 
-mul-lapsed : tie.Need-mul-lapsed Inv-loop μ-loop
-mul-lapsed c = search needs
+mul-lapses : tie.Need-mul-lapses Inv-loop μ-loop
+mul-lapses c = search needs
 
-element-copy-out-lapsed : tie.Need-element-copy-out-lapsed Inv-loop μ-loop
-element-copy-out-lapsed c = search needs
+element-copy-out-lapses : tie.Need-element-copy-out-lapses Inv-loop μ-loop
+element-copy-out-lapses c = search needs
 
-lapsed-requires : tie.Need-lapsed-requires Inv-loop μ-loop
-lapsed-requires c κs = search needs
+lapses-requires : tie.Need-lapses-requires Inv-loop μ-loop
+lapses-requires c κs = search needs
+
+mul-doom : tie.Need-mul-doom Inv-loop μ-loop
+mul-doom c = search needs
+
+element-copy-out-doom : tie.Need-element-copy-out-doom Inv-loop μ-loop
+element-copy-out-doom c = search needs
+
+doom-requires : tie.Need-doom-requires Inv-loop μ-loop
+doom-requires c κs = search needs
 
 mul-s : tie.Need-mul-s Inv-loop μ-loop
 mul-s c = search needs
@@ -45,10 +56,14 @@ loop-less : tie.Need-loop-less Inv-loop μ-loop
 loop-less c = search needs
 
 loop-again : tie.Need-loop-again Inv-loop μ-loop
-loop-again c = make-next (c .before .before .before .loop .inv) _ _ (search needs) (c .lapsed .ensures .0) (λ h. c .lapsed .ensures .1)
+loop-again c =
+    ⊎-elim
+    (λ w. make-new (c .before .before .before .before .loop .inv) _ _ _ (search needs) (lapsed-now _ _ (c .before .lapses .ensures) _ (w .0 .taken) (w .2 .ensures .0)) (λ h f. w .2 .ensures .1) (w .3))
+    (λ w. make-same (c .before .before .before .before .loop .inv) _ _ (search needs) (lapsed-not _ _ (c .before .lapses .ensures) (w .0 .left)) (w .1))
+    (c .if1 .came)
 
 returns : tie.Need-returns Inv-loop μ-loop
 returns c = (make-end (c .before .loop .inv) (search needs), c .before .loop .inv .form)
 
 pub lapsed-spec : {M : Type 1} → statement M
-lapsed-spec = tie.close (tie.spec Inv-loop μ-loop used-requires loop-holds mul-lapsed element-copy-out-lapsed lapsed-requires mul-s element-set-from-s add-i loop-less loop-again returns)
+lapsed-spec = tie.close (tie.spec Inv-loop μ-loop used-requires loop-holds mul-lapses element-copy-out-lapses lapses-requires mul-doom element-copy-out-doom doom-requires mul-s element-set-from-s add-i loop-less loop-again returns)
