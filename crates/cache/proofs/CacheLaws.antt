@@ -2,25 +2,29 @@
 use Prim.Native.Nat.{ℕ, zero, suc, _+_, _-_, _<_, _≤_, min}
 use native.Mathlib.Omega.{arith}
 use mathlib.Core.Path.{_≡_, refl, sym, _∙_, ap}
-use mathlib.Core.Bool.{Bool, true, false, cond}
-use mathlib.Core.List.{[], List, _∷_, _++_, map}
-use lib.ListN.{length, getD, set, take, replicate, length-map}
+use mathlib.Core.Bool.{Bool, true, false, not, cond}
+use mathlib.Core.List.{[], List, _∷_, _++_, map, append-assoc}
+use lib.ListN.{length, getD, set, take, drop, replicate, length-set, length-append, length-drop, take-append-drop}
+use lib.Seq.{length-take-le, take-set-lt, drop-set-lt, getD-take, take-at, drop-at}
 use lib.Dec.{eqb}
-use Rattle.rules.specs.Lists.{any, dropAt}
+use Rattle.rules.specs.Lists.{any, all, keep, dropAt}
 use Rattle.rules.specs.Values as S
 use Rattle.rules.specs.Changes as C
 use Rattle.rules.specs.Reading as D
 use Rattle.rules.specs.Tables as M
 use Rattle.rules.specs.Effects.{inDocuments, stays}
+use Rattle.rules.proofs.Laws.{both}
+use Rattle.rules.proofs.Tests.{all-dropAt}
 use Rattle.docset.specs.Sets.{docs}
+use Rattle.docset.proofs.SetLaws.{docs-none}
 use Rattle.keys.specs.View.{viewPlace, viewKey, viewKeys}
 use Rattle.keys.specs.declared.Place.{Place}
 use Rattle.keys.specs.declared.Key.{Key}
 use Rattle.keys.specs.declared.Keys.{Keys}
 use Rattle.lists.specs.Table.{counted}
-use Rattle.lists.proofs.Loops.{Removing, remove-end, take-removed}
-use Rattle.lists.proofs.Views.{counted-length, Remaking, remake-start}
-use Rattle.lists.proofs.Forms.{form-parts, form-empty, form-remove, used-at}
+use Rattle.lists.proofs.Loops.{Removing, remove-start, remove-end, length-dropAt}
+use Rattle.lists.proofs.Views.{counted-length, take-map, Remaking, remake-start}
+use Rattle.lists.proofs.Forms.{form-parts, parts-form, form-empty, used-at}
 use Rattle.lists.proofs.Remake.{form-set}
 use Rattle.cached.specs.View.{noCached, viewCached, afterChanges}
 use Rattle.cached.specs.Form.{cachedForm, isBlankCached}
@@ -29,7 +33,7 @@ use Rattle.cached.proofs.CachedLaws.{blank-cached}
 use Rattle.cache.specs.View.{viewCache}
 use Rattle.cache.specs.Form.{cacheForm}
 use Rattle.cache.specs.declared.Cache.{Cache}
-use Rattle.lists.proofs.Ends.{remake-here, remake-done}
+use Rattle.lists.proofs.Ends.{remake-here, remake-done, remove-here}
 
 -- ── the table ──
 pub cache-empty : (c : Cached) → viewCached c ≡ noCached → cachedForm c ≡ true → cacheForm (record { count = 0; entries = replicate 16 c }) ≡ true
@@ -46,14 +50,33 @@ map-dropAt f i [] = refl
 map-dropAt f zero (x ∷ xs) = refl
 map-dropAt f (suc i) (x ∷ xs) = ap (λ l. f x ∷ l) (map-dropAt f i xs)
 
-map-last : {A B : Type 0} (f : A → B) (xs : List A) (d : A) → map f (xs ++ (d ∷ [])) ≡ map f xs ++ (f d ∷ [])
-map-last f [] d = refl
-map-last f (x ∷ xs) d = ap (λ l. f x ∷ l) (map-last f xs d)
+-- the first n of k entries are being moved down by one, those after them stay
+pub record Shifting {A : Type 0} (d : A) (xs : List A) (k n : ℕ) (vs : List A) (j : ℕ) : Type 0 where
+  pub long : length xs ≡ k
+  pub few : n ≤ k
+  pub part : Removing d 0 (take n xs) n (take n vs) j
+  pub rest : drop n vs ≡ drop n xs
 
-counted-removed : {A B : Type 0} (view : A → B) (i n : ℕ) (xs : List A) (d : A) → i < n → n ≤ length xs → counted view (n - 1) (dropAt i xs ++ (d ∷ [])) ≡ dropAt i (counted view n xs)
-unfolding counted
-counted-removed view i n xs d h m =
-    rw (map-last view (dropAt i xs) d, map-dropAt view i xs) (take-removed i n (map view xs) (view d) h (rw (length-map xs view) m))
+module _ {A : Type 0} {d : A} {xs : List A} {k n : ℕ} {vs : List A} {j : ℕ} (inv : Shifting d xs k n vs j) where
+  pub shift-next : (e : A) → j + 1 < n → Shifting d xs k n (set vs j (getD vs (j + 1) e)) (j + 1)
+  shift-next e h =
+      let a = getD vs (j + 1) e in
+      let m : j < n = omega arith in
+      record {
+        long = inv .long;
+        few = inv .few;
+        part = rw (take-set-lt n vs j a m) (rw (getD-take n vs (j + 1) e h) at (remove-here (inv .part) e h));
+        rest = drop-set-lt n vs j a m ∙ inv .rest;
+      }
+
+  pub shifted : n ≤ j + 1 → set vs j d ≡ dropAt 0 (take n xs) ++ (d ∷ drop n xs)
+  shifted h =
+      let m : j < n = inv .part .at in
+      sym (take-append-drop n (set vs j d))
+      ∙ rw (take-set-lt n vs j d m, remove-end (inv .part) h, drop-set-lt n vs j d m, inv .rest) (append-assoc (dropAt 0 (take n xs)) (d ∷ []) (drop n xs))
+
+  pub left : n ≤ j + 1 → length (dropAt 0 (take n xs)) ≡ n - 1
+  left h = let l = inv .part .long in let m = inv .part .at in omega (arith, length-dropAt 0 (take n xs) (omega arith))
 
 -- a count past the table's end shows no more than the number of entries shown
 take-own : {A : Type 0} (n : ℕ) (xs : List A) → take (length (take n xs)) xs ≡ take n xs
@@ -69,27 +92,57 @@ module _ (t : Cache) (n : ℕ) (a : n ≡ length (viewCache t)) where
   pub first-none : n ≡ 0 → viewCache t ≡ dropAt 0 (viewCache t)
   first-none h = none-first (viewCache t) (sym a ∙ h)
 
-  module _ (d : Cached) (vs : List Cached) (j : ℕ) (inv : Removing d 0 (t .entries) 16 vs j) (h : 16 ≤ j + 1) (m : n ≡ 0 → ⊥) where
+  pub first-start : (d : Cached) → length (t .entries) ≡ 16 → (n ≡ 0 → ⊥) → Shifting d (t .entries) 16 n (t .entries) 0
+  unfolding viewCache
+  first-start d l m =
+      let q : n ≤ 16 = omega (arith, a, counted-length viewCached (t .count) (t .entries) 16 l) in
+      record { long = l; few = q; part = remove-start (length-take-le n (t .entries) (omega arith)) (omega arith); rest = refl }
+
+  module _ (d : Cached) (vs : List Cached) (j : ℕ) (inv : Shifting d (t .entries) 16 n vs j) (h : n ≤ j + 1) where
     shown : counted viewCached n (t .entries) ≡ viewCache t
     unfolding viewCache counted
     shown = rw a (take-own (t .count) (map viewCached (t .entries)))
 
-    few : n ≤ 16
-    unfolding viewCache
-    few = omega (arith, a, counted-length viewCached (t .count) (t .entries) 16 (inv .long))
-
     pub first-gone : viewCache (record { count = n - 1; entries = set vs j d }) ≡ dropAt 0 (viewCache t)
-    unfolding viewCache
+    unfolding viewCache counted
     first-gone =
-        rw (remove-end inv h)
-        (counted-removed viewCached 0 n (t .entries) d (omega arith) (omega (arith, few, inv .long)) ∙ ap (dropAt 0) shown)
+        let e : take (n - 1) (set vs j d) ≡ dropAt 0 (take n (t .entries)) = rw (shifted inv h) (take-at (dropAt 0 (take n (t .entries))) (d ∷ drop n (t .entries)) (n - 1) (left inv h)) in
+        take-map viewCached (n - 1) (set vs j d)
+        ∙ ap (map viewCached) e
+        ∙ map-dropAt viewCached 0 (take n (t .entries))
+        ∙ ap (dropAt 0) (sym (take-map viewCached n (t .entries)) ∙ shown)
 
     pub first-form : viewCached d ≡ noCached → cachedForm d ≡ true → cacheForm t ≡ true → cacheForm (record { count = n - 1; entries = set vs j d }) ≡ true
     unfolding cacheForm viewCache
     first-form b b′ e =
         let f = form-parts 16 cachedForm isBlankCached (t .count) (t .entries) e in
         let q : n ≡ t .count = omega (arith, a, f .within, counted-length viewCached (t .count) (t .entries) 16 (inv .long)) in
-        rw (remove-end inv h, q) (form-remove 16 cachedForm isBlankCached 0 (t .count) (t .entries) d (omega arith) (blank-cached d b b′) e)
+        let w = f .within in
+        let l = inv .long in
+        let m = inv .part .at in
+        rw (shifted inv h)
+        (parts-form 16 cachedForm isBlankCached (n - 1) (dropAt 0 (take n (t .entries)) ++ (d ∷ drop n (t .entries)))
+        (record {
+          long = simp (length-append, length-drop) (omega (arith, left inv h));
+          within = omega arith;
+          inUse = rw (take-at (dropAt 0 (take n (t .entries))) (d ∷ drop n (t .entries)) (n - 1) (left inv h)) (all-dropAt cachedForm 0 (take n (t .entries)) (rw q (f .inUse)));
+          rest = rw (drop-at (dropAt 0 (take n (t .entries))) (d ∷ drop n (t .entries)) (n - 1) (left inv h)) (both (isBlankCached d) (all isBlankCached (drop n (t .entries))) (blank-cached d b b′) (rw q (f .rest)));
+        }))
+
+-- ── without the documents of no set ──
+keep-all : {A : Type 0} (p : A → Bool) (l : List A) → ((x : A) → p x ≡ true) → l ≡ keep p l
+keep-all p [] h = refl
+keep-all p (x ∷ l) h = rw (h x) (ap (λ r. x ∷ r) (keep-all p l h))
+
+never : {A : Type 0} (l : List A) → any (λ x. false) l ≡ false
+never [] = refl
+never (x ∷ l) = never l
+
+pub none-lost : (t : Cache) (keys : Keys) (lost : ℕ) → lost ≡ 0 → viewCache t ≡ keep (stays (docs lost) (viewKeys keys)) (viewCache t)
+unfolding stays inDocuments
+none-lost t keys lost e =
+    keep-all (stays (docs lost) (viewKeys keys)) (viewCache t)
+    (λ c. rw (e, docs-none) (ap not (never (viewKeys keys (c .key)))))
 
 -- ── all brought up to date ──
 pub record Dating (cs : List C.Update) (keys : ℕ → List S.Place) (t r : Cache) (n i : ℕ) : Type 0 where

@@ -100,6 +100,9 @@ impl Cache {
         ensures shows { λ r. ⌜ viewCache r ≡ keep (stays (docs set) (viewKeys keys)) (viewCache self) ⌝ }
         ensures form { λ r. ⌜ (cacheForm self ≡ true → cacheForm r ≡ true) ⌝ }
     {
+        if set == 0 {
+            return self;
+        }
         let mut kept = Cache::empty();
         let mut i: usize = 0;
         while i < Self::LIMIT {
@@ -149,7 +152,7 @@ impl Cache {
         Field::empty()
     }
 
-    // All but the first: the others move down, and the last entry is emptied.
+    // All but the first: the others move down, and the entry of the last is emptied.
     pub fn without_first(self) -> Self
         ensures shows { λ r. ⌜ viewCache r ≡ dropAt 0 (viewCache self) ⌝ }
         ensures form { λ r. ⌜ (cacheForm self ≡ true → cacheForm r ≡ true) ⌝ }
@@ -158,10 +161,11 @@ impl Cache {
         if n == 0 {
             return self;
         }
+        let end = n as usize;
         let none = Cached::of(0);
         let mut t = self;
         let mut j: usize = 0;
-        while j + 1 < Self::LIMIT {
+        while j + 1 < end {
             t.entries[j] = t.entries[j + 1];
             j += 1;
         }

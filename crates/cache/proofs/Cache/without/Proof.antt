@@ -12,7 +12,7 @@ use Rattle.lists.proofs.Views.{Keeping, keep-start, keep-next, keep-end, keep-p
 use Rattle.cached.specs.View.{viewCached}
 use Rattle.cache.specs.View.{viewCache}
 use Rattle.cache.specs.Form.{cacheForm}
-use Rattle.cache.proofs.CacheLaws.{entry-form}
+use Rattle.cache.proofs.CacheLaws.{entry-form, none-lost}
 use Rattle.cache.proofs.Cache.without.Statement.{statement}
 use Rattle.cache.proofs.Cache.without.Tie as tie
 
@@ -24,6 +24,9 @@ Inv-loop keys set self kept₀ i₀ kept i =
 abbrev μ-loop : tie.MeasureT-loop
 μ-loop keys set self kept₀ i₀ kept i = 16 - i
 
+returns : tie.Need-returns Inv-loop μ-loop
+returns c = (search (none-lost, needs), λ f. f)
+
 empty-requires : tie.Need-empty-requires Inv-loop μ-loop
 empty-requires c κs = search needs
 
@@ -31,11 +34,11 @@ loop-holds : tie.Need-loop-holds Inv-loop μ-loop
 unfolding viewCache
 loop-holds c = (search (keep-start, length-mapped, needs), λ f. c .empty .ensures .1)
 
-cast-if1 : tie.Need-cast-if1 Inv-loop μ-loop
-cast-if1 c = search needs
+cast-if2 : tie.Need-cast-if2 Inv-loop μ-loop
+cast-if2 c = search needs
 
-returns : tie.Need-returns Inv-loop μ-loop
-returns c = (search (keep-end, needs), c .before .before .loop .inv .1)
+returns-2 : tie.Need-returns-2 Inv-loop μ-loop
+returns-2 c = (search (keep-end, needs), c .before .before .loop .inv .1)
 
 mul-push-if-stays : tie.Need-mul-push-if-stays Inv-loop μ-loop
 mul-push-if-stays c = search needs
@@ -55,8 +58,8 @@ loop-less c = search needs
 loop-again : tie.Need-loop-again Inv-loop μ-loop
 loop-again c = (search (keep-next, needs), λ f. c .push-if-stays .ensures .1 (entry-form _ _ _ (search needs) f) (c .before .before .before .before .loop .inv .1 f))
 
-returns-2 : tie.Need-returns-2 Inv-loop μ-loop
-returns-2 c = (search (keep-past, needs), c .before .loop .inv .1)
+returns-3 : tie.Need-returns-3 Inv-loop μ-loop
+returns-3 c = (search (keep-past, needs), c .before .loop .inv .1)
 
 pub without-spec : {M : Type 1} → statement M
 without-spec =
@@ -64,14 +67,15 @@ without-spec =
     (tie.spec
     Inv-loop
     μ-loop
+    returns
     empty-requires
     loop-holds
-    cast-if1
-    returns
+    cast-if2
+    returns-2
     mul-push-if-stays
     element-copy-out-push-if-stays
     push-if-stays-requires
     add-i
     loop-less
     loop-again
-    returns-2)
+    returns-3)
