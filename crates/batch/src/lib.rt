@@ -38,6 +38,9 @@ impl Batch {
         ensures shows { λ r. ⌜ viewField r ≡ carry (viewRows rows) (viewPlace q) (viewField f) (viewBatch self) ⌝ }
         ensures form { λ r. ⌜ (fieldForm f ≡ true → fieldForm r ≡ true) ⌝ }
     {
+        if !self.changes.touches(q) {
+            return f;
+        }
         if rows.has(self.number) {
             return f;
         }
