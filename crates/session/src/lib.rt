@@ -6,7 +6,7 @@ ghost use lib.Dec.{eqb, leb, ltb};
 ghost use Rattle.rules.specs.Limits.{documentCount};
 ghost use Rattle.rules.specs.Lists.{any};
 ghost use Rattle.rules.specs.Tables.{isHeld, isExclusive, hasLapsed, documents, doomedSession, remade};
-ghost use Rattle.rules.specs.Effects.{opened, withShared, withExclusive, withLast, grant, onlyAt, lapses, lapse, loses};
+ghost use Rattle.rules.specs.Effects.{opened, withShared, withExclusive, withLast, grant, onlyAt, lapses, loses};
 ghost use Rattle.rules.specs.Step.{count, heldShared, heldExclusive};
 ghost use Rattle.docset.specs.Sets.{docs};
 ghost use Rattle.keys.specs.View.{viewKey};
@@ -276,16 +276,6 @@ impl Session {
             return true;
         }
         self.any_lapsed(clock)
-    }
-
-    pub fn lapsed(self, clock: u64) -> Self
-        ensures shows { λ r. ⌜ viewSlot r ≡ remade (lapse clock) (viewSlot self) ⌝ }
-        ensures form { λ r. ⌜ (sessionForm self ≡ true → sessionForm r ≡ true) ⌝ }
-    {
-        if self.lapses(clock) {
-            return self.doom();
-        }
-        self
     }
 
     // The documents that it holds, if it lapses.
