@@ -234,15 +234,16 @@ feed-next piece lent out out′ s t r f l n w =
           };
     }
 
--- the server that a piece was taken from began with nothing used
+-- the server that a piece was taken from began with nothing used; where there is room for an answer more, all of the piece is used
 pub feed-end : (s : Server) (piece lent out : List ℕ) (t : Server) → Feeding piece lent (record { plant = s .plant; pending = s .pending; used = 0; wrote = 0 }) out t
-    → (keptServer s ≡ true → Fed s piece out t) × Within t piece lent
-feed-end s piece lent out t f = (
+    → (t .wrote + longest ≤ length lent → t .used ≡ length piece)
+    → (keptServer s ≡ true → Fed s piece out t) × (Within t piece lent × (t .wrote + longest ≤ length lent → t .used ≡ length piece))
+feed-end s piece lent out t f all = (
   λ k.
       let o = opened s k in
       let x = f .fed (closed (record { plant = s .plant; pending = s .pending; used = 0; wrote = 0 }) (record { plant = o .plant; free = o .free; short = o .short })) in
       record { feeds = x .feeds; keeps = x .keeps },
-  f .within,
+  (f .within, all),
 )
 
 -- ── the end of input ──

@@ -1,6 +1,6 @@
 // A server of lines: it takes input in pieces of any size, answers each line once byte 10 has ended it, and keeps of a line that is not
 // ended its first bytes.
-ghost use Prim.Native.Nat.{_≤_, _<_};
+ghost use Prim.Native.Nat.{_+_, _≤_, _<_};
 ghost use mathlib.Core.Path.{_≡_};
 ghost use mathlib.Core.Bool.{true};
 ghost use mathlib.Core.List.{[], _++_};
@@ -92,6 +92,7 @@ fn next(s: Server, piece: &[u8], out: &mut [u8]) -> Server
 pub fn feed(s: Server, piece: &[u8], out: &mut [u8]) -> Server
     ensures feeds { λ r. ⌜ (keptServer s ≡ true → Fed s (now (piece .entry)) (now (out .exit)) r) ⌝ }
     ensures within { λ r. ⌜ Within r (now (piece .entry)) (now (out .entry)) ⌝ }
+    ensures all { λ r. ⌜ (r .wrote + longest ≤ length (now (out .entry)) → r .used ≡ length (now (piece .entry))) ⌝ }
 {
     let plant = s.plant;
     let pending = s.pending;

@@ -23,7 +23,9 @@ same-length : tie.Need-same-length Inv-loop μ-loop
 same-length c = search (c .before .before .before .before .loop .inv .long, needs)
 
 returns : tie.Need-returns Inv-loop μ-loop
-returns c = feed-end (c .before .before .before .before .before .before .before .before .before .args .s) _ _ _ _ (c .before .before .before .before .loop .inv)
+returns c =
+    let f = c .before .before .before .before .loop .inv in
+    feed-end (c .before .before .before .before .before .before .before .before .before .args .s) _ _ _ _ f (λ r. absurd (omega (arith, r, f .long, f .within .1, c .if2 .taken)))
 
 next-requires : tie.Need-next-requires Inv-loop μ-loop
 next-requires c κs = let f = c .before .before .before .before .before .loop .inv in (search needs, search needs)
@@ -38,7 +40,9 @@ same-length-2 : tie.Need-same-length-2 Inv-loop μ-loop
 same-length-2 c = search (c .before .before .loop .inv .long, needs)
 
 returns-2 : tie.Need-returns-2 Inv-loop μ-loop
-returns-2 c = feed-end (c .before .before .before .before .before .before .before .args .s) _ _ _ _ (c .before .before .loop .inv)
+returns-2 c =
+    let f = c .before .before .loop .inv in
+    feed-end (c .before .before .before .before .before .before .before .args .s) _ _ _ _ f (λ r. omega (arith, f .within .0, c .if1 .left))
 
 pub feed-spec : {M : Type 1} → statement M
 feed-spec =
