@@ -197,23 +197,24 @@ take-between (suc a) zero l h = absurd (omega (arith, h))
 take-between (suc a) (suc b) [] h = sym (take-all (suc b - suc a) [] (omega arith))
 take-between (suc a) (suc b) (x ∷ l) h = let e : suc b - suc a ≡ b - a = omega arith in rw e (ap (λ m. x ∷ m) (take-between a b l (omega (arith, h))))
 
+-- nothing of a piece is used yet
+pub nothing-fed : (s : Server) → keptServer s ≡ true → Feeds (viewPending (s .pending)) (viewPlant (s .plant)) [] [] (viewPending (s .pending)) (viewPlant (s .plant))
+nothing-fed s k =
+    let o = opened s k in
+    let v = viewPending (s .pending) in
+    let p = viewPlant (s .plant) in
+    record {
+      serves = subst (λ ls. Serves ls p [] p) (sym (ap complete (append-nil v) ∙ complete-none v (o .free))) (refl, refl);
+      keeps = sym (ap (λ l. take lineLimit (unended l)) (append-nil v) ∙ ap (take lineLimit) (unended-all v (o .free)) ∙ take-all lineLimit v (o .short));
+    }
+
 pub feed-start : (p : Plant) (kept : Pending) (piece lent : List ℕ)
     → Feeding piece lent (record { plant = p; pending = kept; used = 0; wrote = 0 }) lent (record { plant = p; pending = kept; used = 0; wrote = 0 })
 feed-start p kept piece lent =
-    let s : Server = record { plant = p; pending = kept; used = 0; wrote = 0 } in
     record {
       long = refl;
       within = (omega arith, omega arith);
-      fed = λ k.
-          let o = opened s k in
-          let v = viewPending kept in
-          record {
-            feeds = record {
-              serves = subst (λ ls. Serves ls (viewPlant p) [] (viewPlant p)) (sym (ap complete (append-nil v) ∙ complete-none v (o .free))) (refl, refl);
-              keeps = sym (ap (λ l. take lineLimit (unended l)) (append-nil v) ∙ ap (take lineLimit) (unended-all v (o .free)) ∙ take-all lineLimit v (o .short));
-            };
-            keeps = k;
-          };
+      fed = λ k. record { feeds = nothing-fed (record { plant = p; pending = kept; used = 0; wrote = 0 }) k; keeps = k };
     }
 
 pub feed-next : (piece lent out out′ : List ℕ) (s t r : Server) → Feeding piece lent s out t → length out′ ≡ length out

@@ -1,2 +1,3 @@
 -- The proofs of the server.
 mod Laws
+pub mod Input

@@ -1,2 +1,3 @@
--- What a server promises.
+-- What a server promises, of one piece and of a whole input.
 pub mod Fed
+pub mod Input

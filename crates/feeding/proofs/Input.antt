@@ -1,0 +1,37 @@
+-- However an input is cut into pieces, its answers are those of its lines.
+use mathlib.Core.Path.{_≡_, refl, sym, subst}
+use mathlib.Core.Bool.{true}
+use mathlib.Core.List.{List, [], _∷_}
+use lib.ListN.{take}
+use Rattle.format.specs.Feeding.{Feeds}
+use Rattle.format.proofs.Feeding.{feeds-append, feeds-whole}
+use Rattle.plant.specs.View.{viewPlant}
+use Rattle.pending.specs.View.{viewPending}
+use Rattle.feeding.specs.Fed.{keptServer, Fed}
+use Rattle.feeding.specs.Input.{Taken, Takes, left, input, output, InputServed}
+use Rattle.feeding.specs.declared.Server.{Server}
+use Rattle.feeding.proofs.Laws.{nothing-fed}
+
+record Whole (s : Server) (xs : List Taken) : Type 0 where
+  feeds : Feeds (viewPending (s .pending)) (viewPlant (s .plant)) (input xs) (output xs) (viewPending (left s xs .pending)) (viewPlant (left s xs .plant))
+  keeps : keptServer (left s xs) ≡ true
+
+whole : (s : Server) (xs : List Taken) → keptServer s ≡ true → Takes s xs → Whole s xs
+whole s [] k t = record { feeds = nothing-fed s k; keeps = k }
+whole s (x ∷ xs) k t =
+    let f = t .0 k in
+    let r = whole (x .server) xs (f .keeps) (t .1) in
+    record {
+      feeds =
+          feeds-append (viewPending (s .pending)) (take (x .server .used) (x .piece)) (input xs) (take (x .server .wrote) (x .out)) (output xs) (viewPending (x .server .pending))
+          (viewPending (left (x .server) xs .pending)) (viewPlant (s .plant)) (viewPlant (x .server .plant)) (viewPlant (left (x .server) xs .plant)) (f .feeds) (r .feeds);
+      keeps = r .keeps;
+    }
+
+pub input-served : InputServed
+input-served s start none k xs t out r h =
+    let w = whole s xs k t in
+    feeds-whole (input xs) (output xs) (viewPending (left s xs .pending)) (take (r .wrote) out) _ (viewPlant (left s xs .plant)) (viewPlant (r .plant))
+    (subst (λ p. Feeds [] p (input xs) (output xs) (viewPending (left s xs .pending)) (viewPlant (left s xs .plant))) start
+    (subst (λ u. Feeds u (viewPlant (s .plant)) (input xs) (output xs) (viewPending (left s xs .pending)) (viewPlant (left s xs .plant))) none (w .feeds)))
+    (h (w .keeps) .serves)

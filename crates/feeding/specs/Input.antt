@@ -1,0 +1,43 @@
+-- However an input is cut into pieces, its answers are those of its lines. Its proof is proofs/Input, from the promises of `feed` and `finish` alone.
+use Prim.Native.Nat.{ℕ}
+use mathlib.Core.Path.{_≡_}
+use mathlib.Core.Bool.{true}
+use mathlib.Core.List.{List, [], _++_, _∷_}
+use lib.ListN.{take}
+use Rattle.rules.specs.Tables.{setup}
+use Rattle.format.specs.Serving.{linesOf, Serves}
+use Rattle.plant.specs.View.{viewPlant}
+use Rattle.pending.specs.View.{viewPending}
+use Rattle.feeding.specs.Fed.{keptServer, Fed, Finished}
+use Rattle.feeding.specs.declared.Server.{Server}
+
+-- a piece, the bytes lent with it as `feed` left them, and the server that it left
+pub record Taken : Type 0 where
+  pub piece : List ℕ
+  pub out : List ℕ
+  pub server : Server
+
+-- each piece is taken by the server that the one before left, and the promise of `feed` holds of each
+abbrev pub Takes : Server → List Taken → Type 0
+Takes s [] = Unit {0}
+Takes s (x ∷ xs) = (keptServer s ≡ true → Fed s (x .piece) (x .out) (x .server)) × Takes (x .server) xs
+
+abbrev pub left : Server → List Taken → Server
+left s [] = s
+left s (x ∷ xs) = left (x .server) xs
+
+-- the bytes used, and the bytes answered
+abbrev pub input : List Taken → List ℕ
+input [] = []
+input (x ∷ xs) = take (x .server .used) (x .piece) ++ input xs
+
+abbrev pub output : List Taken → List ℕ
+output [] = []
+output (x ∷ xs) = take (x .server .wrote) (x .out) ++ output xs
+
+-- `Server::start()` promises the premises on the first server
+abbrev pub InputServed : Type 0
+InputServed =
+    (s : Server) → viewPlant (s .plant) ≡ setup → viewPending (s .pending) ≡ [] → keptServer s ≡ true
+    → (xs : List Taken) → Takes s xs → (out : List ℕ) (t : Server) → (keptServer (left s xs) ≡ true → Finished (left s xs) out t)
+    → Serves (linesOf (input xs)) setup (output xs ++ take (t .wrote) out) (viewPlant (t .plant))
