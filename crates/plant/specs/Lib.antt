@@ -1,2 +1,3 @@
 -- The plant as the rules see it.
 pub mod View
+pub mod With

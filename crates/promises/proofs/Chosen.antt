@@ -20,7 +20,8 @@ use Rattle.rules.proofs.KeptTest.{kept-iff, kept-step}
 use Rattle.plant.specs.View.{viewPlant, plantForm, keptPlant}
 use Rattle.plant.specs.declared.Plant.{Plant}
 use Rattle.answers.specs.declared.Answer.{Answer}
-use Rattle.promises.specs.Promise.{chosen, Leaves, Keeps}
+use Rattle.answers.specs.View.{viewAnswer, isRefused}
+use Rattle.promises.specs.Promise.{chosen, Leaves, Performs, Keeps}
 
 -- ── the first numbers of a list that pass a test ──
 all-has : (l : List ℕ) → all (λ n. has n l) l ≡ true
@@ -79,3 +80,8 @@ leaves-keep c p q a l f k lent e = kept-left c lent p q (l k lent e) k (f (and-t
 -- the three promises of an `after`
 pub and-keeps : (c : Call) (p q : Plant) (a : Answer) → Leaves c p a q → (plantForm p ≡ true → plantForm q ≡ true) → Leaves c p a q × ((plantForm p ≡ true → plantForm q ≡ true) × Keeps c p a q)
 and-keeps c p q a l f = (l, (f, leaves-keep c p q a l f))
+
+-- the same of the plant that an accepted call leaves
+pub performed : (c : Call) (p q : Plant) (a : Answer) (r : Bool) → r ≡ isRefused (viewAnswer a) → r ≡ false → Performs c p q → (plantForm p ≡ true → plantForm q ≡ true)
+    → Leaves c p a q × ((plantForm p ≡ true → plantForm q ≡ true) × Keeps c p a q)
+performed c p q a r er h l f = and-keeps c p q a (λ k lent ea. l k lent (ap isRefused (sym ea) ∙ (sym er ∙ h))) f

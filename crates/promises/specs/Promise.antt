@@ -1,7 +1,7 @@
 -- What the two functions of a call promise, for every plant that keeps the tables' rules: `answer` says what the call answers,
 -- and `after` which plant it leaves. Both are those of the rules' `step`.
 use mathlib.Core.Path.{_≡_}
-use mathlib.Core.Bool.{true}
+use mathlib.Core.Bool.{true, false}
 use mathlib.Core.List.{List}
 use lib.IntN.{ℤ}
 use lib.ListN.{take}
@@ -12,7 +12,7 @@ use Rattle.rules.specs.Calls.{Call, Pick, Result}
 use Rattle.rules.specs.Step.{step}
 use Rattle.plant.specs.View.{viewPlant, keptPlant}
 use Rattle.plant.specs.declared.Plant.{Plant}
-use Rattle.answers.specs.View.{viewAnswer}
+use Rattle.answers.specs.View.{viewAnswer, isRefused}
 use Rattle.answers.specs.declared.Answer.{Answer}
 
 -- what the code chooses where the paper leaves it free: the oldest cached key gives way, and a sweep takes the first rows it may.
@@ -30,6 +30,10 @@ Answers c lent p a = keptPlant p ≡ true → viewAnswer a ≡ result c lent p .
 -- a is what the call answers
 abbrev pub Leaves : Call → Plant → Answer → Plant → Type 0
 Leaves c p a q = keptPlant p ≡ true → (lent : List ℤ) → viewAnswer a ≡ result c lent p .answer → viewPlant q ≡ result c lent p .plant
+
+-- the plant that the call leaves where it is accepted
+abbrev pub Performs : Call → Plant → Plant → Type 0
+Performs c p q = keptPlant p ≡ true → (lent : List ℤ) → isRefused (result c lent p .answer) ≡ false → viewPlant q ≡ result c lent p .plant
 
 -- it keeps the tables' rules. This follows from `Leaves` and from that the plant's form is kept (`proofs/Chosen`, `leaves-keep`)
 abbrev pub Keeps : Call → Plant → Answer → Plant → Type 0

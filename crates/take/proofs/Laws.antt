@@ -20,9 +20,7 @@ use Rattle.rules.specs.Calls as C
 use Rattle.rules.specs.Effects.{taken}
 use Rattle.rules.specs.Step.{accepted}
 use Rattle.rules.proofs.Laws.{not-met}
-use Rattle.answers.specs.View.{viewAnswer, isRefused}
-use Rattle.answers.specs.declared.Answer.{Answer}
-use Rattle.promises.specs.Promise.{chosen, result, Leaves}
+use Rattle.promises.specs.Promise.{chosen, result, Performs}
 use Rattle.promises.proofs.Telling.{refuses, accepts, none-held, left-accepted}
 use Rattle.arguments.proofs.Numbers.{held, outside, inside, index-is, index-lt}
 use Rattle.workers.specs.View.{viewHand, viewHands, viewQueue}
@@ -69,19 +67,18 @@ module _ (p : Plant) (z : ℤ) (fits : SFits w64 z) (w : ℕ) (e : w ≡ cond (b
         oldest-told i n en = ap (λ (m : ℕ). fine (m ∷ [])) en ∙ accepts (Take z) lent (chosen (viewPlant p)) (viewPlant p) (rw (in-range, hand-is, g, sym eq, k, sym eb, i) refl)
 
 -- ── the plant left ──
-module _ (p : Plant) (z : ℤ) (a : Answer) (b : Bool) (eb : b ≡ isRefused (viewAnswer a)) where
-  module _ (h : b ≡ false) (fits : SFits w64 z) (w : ℕ) (e : w ≡ cond (below (held z) workerCount) (natOf (held z)) workerCount)
-      (n : ℕ) (en : n ≡ oldest (viewBuffer (p .buffer))) (hand : Hand) (eh : viewHand hand ≡ holds n false)
-      (hs : Hands) (ehs : viewHands hs ≡ cond (ltb w workerCount) (override (viewHands (p .hands)) w (viewHand hand)) (viewHands (p .hands)))
-      (q : Queue) (eq : viewQueue q ≡ leased (some w) (p .clock)) where
-    pub in-hand : Leaves (Take z) p a (record { store = p .store; keys = p .keys; cache = p .cache; sessions = p .sessions; buffer = p .buffer; rows = p .rows; hands = hs; queue = q; clock = p .clock; near = p .near; next = p .next })
-    unfolding conditions viewPlant accepted taken
-    in-hand kept lent ea =
-        let m = none-held (Take z) lent (chosen (viewPlant p)) (viewPlant p) (viewAnswer a) ea (sym eb ∙ h) in
-        let g : below z workerCount ≡ true = not-false (below z workerCount) (not-met _ outOfRange (m .0)) in
-        rw (ehs, index-lt z fits workerCount w e g, eh, en, eq, sym (index-is z fits workerCount w e g)) refl
-        ∙ left-accepted (Take z) lent (chosen (viewPlant p)) (viewPlant p) m
+module _ (p : Plant) (z : ℤ) (fits : SFits w64 z) (w : ℕ) (e : w ≡ cond (below (held z) workerCount) (natOf (held z)) workerCount)
+    (n : ℕ) (en : n ≡ oldest (viewBuffer (p .buffer))) (hand : Hand) (eh : viewHand hand ≡ holds n false)
+    (hs : Hands) (ehs : viewHands hs ≡ cond (ltb w workerCount) (override (viewHands (p .hands)) w (viewHand hand)) (viewHands (p .hands)))
+    (q : Queue) (eq : viewQueue q ≡ leased (some w) (p .clock)) where
+  pub in-hand : Performs (Take z) p (record { store = p .store; keys = p .keys; cache = p .cache; sessions = p .sessions; buffer = p .buffer; rows = p .rows; hands = hs; queue = q; clock = p .clock; near = p .near; next = p .next })
+  unfolding conditions viewPlant accepted taken
+  in-hand kept lent h =
+      let m = none-held (Take z) lent (chosen (viewPlant p)) (viewPlant p) _ refl h in
+      let g : below z workerCount ≡ true = not-false (below z workerCount) (not-met _ outOfRange (m .0)) in
+      rw (ehs, index-lt z fits workerCount w e g, eh, en, eq, sym (index-is z fits workerCount w e g)) refl
+      ∙ left-accepted (Take z) lent (chosen (viewPlant p)) (viewPlant p) m
 
-    pub in-hand-form : (handsForm (p .hands) ≡ true → handForm hand ≡ true → handsForm hs ≡ true) → handForm hand ≡ true → queueForm q ≡ true → plantForm p ≡ true
-        → plantForm (record { store = p .store; keys = p .keys; cache = p .cache; sessions = p .sessions; buffer = p .buffer; rows = p .rows; hands = hs; queue = q; clock = p .clock; near = p .near; next = p .next }) ≡ true
-    in-hand-form fh ff fq = left-form p (p .buffer) hs q (λ f. f) (λ f. fh f ff) (λ f. fq)
+  pub in-hand-form : (handsForm (p .hands) ≡ true → handForm hand ≡ true → handsForm hs ≡ true) → handForm hand ≡ true → queueForm q ≡ true → plantForm p ≡ true
+      → plantForm (record { store = p .store; keys = p .keys; cache = p .cache; sessions = p .sessions; buffer = p .buffer; rows = p .rows; hands = hs; queue = q; clock = p .clock; near = p .near; next = p .next }) ≡ true
+  in-hand-form fh ff fq = left-form p (p .buffer) hs q (λ f. f) (λ f. fh f ff) (λ f. fq)

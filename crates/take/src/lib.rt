@@ -5,7 +5,8 @@ ghost use mathlib.Core.List.{List};
 ghost use lib.IntN.{ℤ};
 ghost use Rattle.rules.specs.Calls.{Take};
 ghost use Rattle.plant.specs.View.{plantForm};
-ghost use Rattle.promises.specs.Promise.{Answers, Leaves, Keeps};
+ghost use Rattle.promises.specs.Promise.{Answers, Performs};
+ghost use Rattle.take.specs.Left.{left};
 use answers::Answer;
 use answers::Refusal;
 use plant::Plant;
@@ -33,19 +34,20 @@ pub fn answer(p: Plant, worker: i64) -> Answer
     Answer::Taken(p.buffer.oldest())
 }
 
-pub fn after(mut p: Plant, worker: i64, a: Answer) -> Plant
-    ensures shows { λ r. ⌜ Leaves (Take worker) p a r ⌝ }
-    ensures form { λ r. ⌜ (plantForm p ≡ true → plantForm r ≡ true) ⌝ }
-    ensures kept { λ r. ⌜ Keeps (Take worker) p a r ⌝ }
+// What is left of the tables that the call writes.
+pub struct Left {
+    pub hands: Hands,
+    pub queue: Queue,
+}
+
+pub fn after(p: Plant, worker: i64) -> Left
+    ensures shows { λ r. ⌜ Performs (Take worker) p (left p r) ⌝ }
+    ensures form { λ r. ⌜ (plantForm p ≡ true → plantForm (left p r) ≡ true) ⌝ }
 {
-    if a.is_refused() {
-        return p;
-    }
     let w = arguments::index(worker, Hands::LIMIT as u8);
-    let now = p.clock;
     let number = p.buffer.oldest();
     let hand = Hand::holding(number);
-    p.hands = p.hands.with(w, hand);
-    p.queue = Queue::taken(w, now);
-    p
+    let hands = p.hands.with(w, hand);
+    let queue = Queue::taken(w, p.clock);
+    Left { hands, queue }
 }

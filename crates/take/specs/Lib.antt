@@ -1,0 +1,2 @@
+-- What a take leaves.
+pub mod Left
