@@ -1,6 +1,6 @@
 -- What abandon asks, answers and leaves.
-use mathlib.Core.Path.{_≡_, refl, sym, _∙_}
-use mathlib.Core.Bool.{Bool, true, false}
+use mathlib.Core.Path.{_≡_, refl, _∙_}
+use mathlib.Core.Bool.{true}
 use mathlib.Core.Option.{none, some}
 use mathlib.Core.List.{List, []}
 use lib.IntN.{ℤ}
@@ -12,9 +12,7 @@ use Rattle.rules.specs.Effects.{abandoned}
 use Rattle.rules.specs.Step.{accepted, ending}
 use Rattle.plant.specs.View.{viewPlant, keptPlant}
 use Rattle.plant.specs.declared.Plant.{Plant}
-use Rattle.answers.specs.View.{viewAnswer, isRefused}
-use Rattle.answers.specs.declared.Answer.{Answer}
-use Rattle.promises.specs.Promise.{chosen, result, Leaves}
+use Rattle.promises.specs.Promise.{chosen, result, Performs}
 use Rattle.promises.proofs.Telling.{accepts, none-held, left-accepted}
 use Rattle.ending.proofs.Standing.{Asks}
 
@@ -26,8 +24,6 @@ pub abandons : (p : Plant) (z : ℤ) (lent : List ℤ) → first (conditions (Ab
 unfolding accepted
 abandons p z lent e = accepts (Abandon z) lent (chosen (viewPlant p)) (viewPlant p) e
 
-pub frees : (p : Plant) (z : ℤ) (a : Answer) (r : Bool) → r ≡ isRefused (viewAnswer a) → r ≡ false
-    → (q : Plant) → (keptPlant p ≡ true → viewPlant q ≡ ending (some (natOf z)) (viewPlant p)) → Leaves (Abandon z) p a q
+pub frees : (p : Plant) (z : ℤ) (q : Plant) → (keptPlant p ≡ true → viewPlant q ≡ ending (some (natOf z)) (viewPlant p)) → Performs (Abandon z) p q
 unfolding accepted abandoned
-frees p z a r er h q eq k lent ea =
-    eq k ∙ left-accepted (Abandon z) lent (chosen (viewPlant p)) (viewPlant p) (none-held (Abandon z) lent (chosen (viewPlant p)) (viewPlant p) (viewAnswer a) ea (sym er ∙ h))
+frees p z q eq k lent h = eq k ∙ left-accepted (Abandon z) lent (chosen (viewPlant p)) (viewPlant p) (none-held (Abandon z) lent (chosen (viewPlant p)) (viewPlant p) _ refl h)
