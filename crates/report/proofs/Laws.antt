@@ -1,6 +1,5 @@
 -- What report asks, answers and leaves.
 use mathlib.Core.Path.{_≡_, refl, sym, _∙_, ap}
-use mathlib.Core.Bool.{Bool, false}
 use mathlib.Core.Option.{none}
 use mathlib.Core.List.{List, [], _∷_}
 use Prim.Native.Nat.{ℕ}
@@ -13,17 +12,14 @@ use Rattle.rules.specs.Tables as M
 use Rattle.rules.specs.Calls.{Answer, Report, fine}
 use Rattle.rules.specs.Conditions.{conditions}
 use Rattle.rules.specs.Step.{accepted, count, heldShared, heldExclusive}
-use Rattle.rules.proofs.Laws.{byCase}
 use Rattle.changes.specs.View.{viewChanges}
 use Rattle.session.specs.View.{viewSession}
 use Rattle.session.specs.declared.Session.{Session}
 use Rattle.sessions.specs.View.{viewSessions}
 use Rattle.plant.specs.View.{viewPlant}
 use Rattle.plant.specs.declared.Plant.{Plant}
-use Rattle.answers.specs.View.{viewAnswer, isRefused, isEnding}
-use Rattle.answers.specs.declared.Answer as A
-use Rattle.promises.specs.Promise.{chosen, result, Leaves}
-use Rattle.promises.proofs.Telling.{accepts, none-held, left-accepted, left-stays}
+use Rattle.promises.specs.Promise.{chosen, result, Performs}
+use Rattle.promises.proofs.Telling.{accepts, none-held, left-accepted}
 use Rattle.ending.proofs.Standing.{Asks}
 
 pub asks : Asks Report (λ z p. [])
@@ -40,10 +36,7 @@ pub reports : (p : Plant) (z : ℤ) (lent : List ℤ) (s : Session) (x y n : ℕ
 unfolding viewPlant viewSession accepted told
 reports p z lent s x y n ex ey en es f = rw (ex, ey, en) refl ∙ ap told (sym es) ∙ accepts (Report z) lent (chosen (viewPlant p)) (viewPlant p) f
 
--- accepted or not, it ends only a session that was doomed
-pub leaves : (p : Plant) (z : ℤ) (a : A.Answer) (e : Bool) → e ≡ isEnding (viewAnswer a) → e ≡ false → Leaves (Report z) p a p
+-- a report that is accepted leaves the plant as it was
+pub performs : (p : Plant) (z : ℤ) → Performs (Report z) p p
 unfolding accepted
-leaves p z a e ee h k lent ea =
-    byCase (isRefused (viewAnswer a))
-    (λ r. left-stays (Report z) lent (chosen (viewPlant p)) (viewPlant p) (viewAnswer a) ea r (sym ee ∙ h))
-    (λ r. left-accepted (Report z) lent (chosen (viewPlant p)) (viewPlant p) (none-held (Report z) lent (chosen (viewPlant p)) (viewPlant p) (viewAnswer a) ea r))
+performs p z k lent h = left-accepted (Report z) lent (chosen (viewPlant p)) (viewPlant p) (none-held (Report z) lent (chosen (viewPlant p)) (viewPlant p) _ refl h)

@@ -1,2 +1,2 @@
 -- Laws of report.
-mod Laws
+pub mod Laws
