@@ -24,10 +24,9 @@ use Rattle.sessions.specs.declared.Sessions.{Sessions}
 use Rattle.plant.specs.View.{viewPlant, keptPlant, plantForm}
 use Rattle.plant.specs.declared.Plant.{Plant}
 use Rattle.plant.proofs.Formed.{form-parts, formed}
-use Rattle.answers.specs.View.{viewAnswer, isRefused}
-use Rattle.answers.specs.declared.Answer.{Answer}
-use Rattle.promises.specs.Promise.{chosen, result, Leaves}
+use Rattle.promises.specs.Promise.{chosen, result, Performs}
 use Rattle.promises.proofs.Telling.{refuses, accepts, none-held, left-accepted}
+use Rattle.begin.specs.Left.{left}
 
 -- ── whether every slot is taken ──
 abbrev anyDoomed : List M.Slot → Bool
@@ -59,26 +58,25 @@ module _ (p : Plant) (lent : List ℤ) (k : keptPlant p ≡ true) where
     begins g = accepts Begin lent (chosen (viewPlant p)) (viewPlant p) (rw (le-ltb lastSession (p .next) h, sym ef, g) refl)
 
 -- ── the plant left ──
-module _ (p : Plant) (a : Answer) (r : Bool) (er : r ≡ isRefused (viewAnswer a)) (h : r ≡ false) where
-  -- not where the numbers are spent
-  pub not-spent : lastSession < p .next → Leaves Begin p a p
-  unfolding conditions viewPlant
-  not-spent g k lent ea =
-      let m = none-held Begin lent (chosen (viewPlant p)) (viewPlant p) (viewAnswer a) ea (sym er ∙ h) in
-      absurd (omega (arith, g, ltb-false lastSession (p .next) (not-met _ numbersSpent (m .0))))
+-- none where the numbers are spent
+pub not-spent : (p : Plant) → lastSession < p .next → (q : Plant) → Performs Begin p q
+unfolding conditions viewPlant
+not-spent p g q k lent h =
+    let m = none-held Begin lent (chosen (viewPlant p)) (viewPlant p) _ refl h in
+    absurd (omega (arith, g, ltb-false lastSession (p .next) (not-met _ numbersSpent (m .0))))
 
-  module _ (t : Sessions) (et : viewSessions t ≡ pushed slotLimit (room (viewSessions (p .sessions))) (opened (p .next) (p .clock))) where
-    abbrev left : Plant
-    left = record { store = p .store; keys = p .keys; cache = p .cache; sessions = t; buffer = p .buffer; rows = p .rows; hands = p .hands; queue = p .queue; clock = p .clock; near = p .near; next = p .next + 1 }
+module _ (p : Plant) (t : Sessions) (et : viewSessions t ≡ pushed slotLimit (room (viewSessions (p .sessions))) (opened (p .next) (p .clock))) where
+  abbrev withBegun : Plant
+  withBegun = left p (record { sessions = t; next = p .next + 1 })
 
-    pub opens : Leaves Begin p a left
-    unfolding viewPlant accepted begun
-    opens k lent ea =
-        let n : p .next + 1 ≡ suc (p .next) = omega arith in
-        rw (et, n) refl
-        ∙ left-accepted Begin lent (chosen (viewPlant p)) (viewPlant p) (none-held Begin lent (chosen (viewPlant p)) (viewPlant p) (viewAnswer a) ea (sym er ∙ h))
+  pub opens : Performs Begin p withBegun
+  unfolding viewPlant accepted begun
+  opens k lent h =
+      let n : p .next + 1 ≡ suc (p .next) = omega arith in
+      rw (et, n) refl
+      ∙ left-accepted Begin lent (chosen (viewPlant p)) (viewPlant p) (none-held Begin lent (chosen (viewPlant p)) (viewPlant p) _ refl h)
 
-    pub opens-form : (sessionsForm (p .sessions) ≡ true → sessionsForm t ≡ true) → plantForm p ≡ true → plantForm left ≡ true
-    opens-form g f =
-        let x = form-parts p f in
-        formed _ (record { store = x .store; keys = x .keys; cache = x .cache; sessions = g (x .sessions); buffer = x .buffer; rows = x .rows; hands = x .hands; queue = x .queue })
+  pub opens-form : (sessionsForm (p .sessions) ≡ true → sessionsForm t ≡ true) → plantForm p ≡ true → plantForm withBegun ≡ true
+  opens-form g f =
+      let x = form-parts p f in
+      formed _ (record { store = x .store; keys = x .keys; cache = x .cache; sessions = g (x .sessions); buffer = x .buffer; rows = x .rows; hands = x .hands; queue = x .queue })

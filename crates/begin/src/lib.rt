@@ -10,7 +10,8 @@ ghost use Rattle.rules.specs.Lists.{any};
 ghost use Rattle.rules.specs.Calls.{Begin};
 ghost use Rattle.sessions.specs.View.{viewSessions};
 ghost use Rattle.plant.specs.View.{plantForm};
-ghost use Rattle.promises.specs.Promise.{Answers, Leaves, Keeps};
+ghost use Rattle.promises.specs.Promise.{Answers, Performs};
+ghost use Rattle.begin.specs.Left.{left};
 use answers::Answer;
 use answers::Refusal;
 use plant::Plant;
@@ -42,20 +43,25 @@ pub fn answer(p: Plant) -> Answer
     Answer::Begun(number as u32)
 }
 
-pub fn after(mut p: Plant, a: Answer) -> Plant
-    ensures shows { λ r. ⌜ Leaves Begin p a r ⌝ }
-    ensures form { λ r. ⌜ (plantForm p ≡ true → plantForm r ≡ true) ⌝ }
-    ensures kept { λ r. ⌜ Keeps Begin p a r ⌝ }
+// What is left of the tables that the call writes.
+pub struct Left {
+    pub sessions: Sessions,
+    pub next: u64,
+}
+
+pub fn after(p: Plant) -> Left
+    ensures shows { λ r. ⌜ Performs Begin p (left p r) ⌝ }
+    ensures form { λ r. ⌜ (plantForm p ≡ true → plantForm (left p r) ≡ true) ⌝ }
 {
-    let next = p.next;
-    if a.is_refused() {
-        return p;
+    let number = p.next;
+    let sessions = p.sessions;
+    if LAST_SESSION < number {
+        return Left {
+            sessions,
+            next: number,
+        };
     }
-    if LAST_SESSION < next {
-        return p;
-    }
-    let now = p.clock;
-    p.sessions = p.sessions.begun(next as u32, now);
-    p.next = next + 1;
-    p
+    let sessions = sessions.begun(number as u32, p.clock);
+    let next = number + 1;
+    Left { sessions, next }
 }

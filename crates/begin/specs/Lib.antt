@@ -1,0 +1,2 @@
+-- What a begin leaves.
+pub mod Left
