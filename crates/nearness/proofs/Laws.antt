@@ -1,6 +1,6 @@
 -- What store answers and leaves, one law for each way out.
 use mathlib.Core.Path.{_≡_, refl, sym, _∙_}
-use mathlib.Core.Bool.{Bool, true, false, cond}
+use mathlib.Core.Bool.{true, false, cond}
 use mathlib.Core.List.{List, [], _∷_}
 use Prim.Native.Nat.{ℕ, zero, suc, _≤_, _<_}
 use native.Mathlib.Omega.{arith}
@@ -17,12 +17,11 @@ use Rattle.rules.specs.Calls.{Store, refused, fine}
 use Rattle.rules.specs.Conditions.{conditions, goodStoreMark}
 use Rattle.rules.specs.Step.{accepted}
 use Rattle.rules.proofs.Laws.{byCase, not-met}
-use Rattle.answers.specs.View.{viewAnswer, isRefused}
-use Rattle.answers.specs.declared.Answer.{Answer}
-use Rattle.promises.specs.Promise.{chosen, result, Leaves}
-use Rattle.promises.proofs.Telling.{refuses, accepts, none-held, left-accepted, left-refused}
+use Rattle.promises.specs.Promise.{chosen, result, Performs}
+use Rattle.promises.proofs.Telling.{refuses, accepts, none-held, left-accepted}
 use Rattle.arguments.proofs.Numbers.{held, outside, inside, index-is}
 use Rattle.plant.specs.View.{viewPlant, keptPlant, plantForm}
+use Rattle.plant.specs.With.{withNear}
 use Rattle.plant.specs.declared.Plant.{Plant}
 
 -- ── the marks ──
@@ -53,19 +52,15 @@ module _ (p : Plant) (z : ℤ) (fits : SFits w64 z) (n : ℕ) (e : n ≡ cond (b
   done l = accepts (Store z) lent (chosen (viewPlant p)) (viewPlant p) (rw (mark-test z, inside z fits 2 n e (omega arith)) refl)
 
 -- ── the plant left ──
-module _ (p : Plant) (z : ℤ) (a : Answer) (b : Bool) (eb : b ≡ isRefused (viewAnswer a)) where
-  pub turned-away : b ≡ true → Leaves (Store z) p a p
-  turned-away h kept lent ea = left-refused (Store z) lent (chosen (viewPlant p)) (viewPlant p) (viewAnswer a) ea (sym eb ∙ h) refl
+module _ (p : Plant) (z : ℤ) (fits : SFits w64 z) (n : ℕ) (e : n ≡ cond (below (held z) 2) (natOf (held z)) 2) where
+  pub marked : Performs (Store z) p (withNear p (eqb n 1))
+  unfolding conditions viewPlant accepted
+  marked kept lent h =
+      let m = none-held (Store z) lent (chosen (viewPlant p)) (viewPlant p) _ refl h in
+      let g : below z 2 ≡ true = sym (mark-test z) ∙ not-false (goodStoreMark z) (not-met _ outOfRange (m .0)) in
+      rw (near-is n, sym (index-is z fits 2 n e g)) refl
+      ∙ left-accepted (Store z) lent (chosen (viewPlant p)) (viewPlant p) m
 
-  module _ (h : b ≡ false) (fits : SFits w64 z) (n : ℕ) (e : n ≡ cond (below (held z) 2) (natOf (held z)) 2) where
-    pub marked : Leaves (Store z) p a (record { store = p .store; keys = p .keys; cache = p .cache; sessions = p .sessions; buffer = p .buffer; rows = p .rows; hands = p .hands; queue = p .queue; clock = p .clock; near = eqb n 1; next = p .next })
-    unfolding conditions viewPlant accepted
-    marked kept lent ea =
-        let m = none-held (Store z) lent (chosen (viewPlant p)) (viewPlant p) (viewAnswer a) ea (sym eb ∙ h) in
-        let g : below z 2 ≡ true = sym (mark-test z) ∙ not-false (goodStoreMark z) (not-met _ outOfRange (m .0)) in
-        rw (near-is n, sym (index-is z fits 2 n e g)) refl
-        ∙ left-accepted (Store z) lent (chosen (viewPlant p)) (viewPlant p) m
-
-    pub marked-form : plantForm p ≡ true → plantForm (record { store = p .store; keys = p .keys; cache = p .cache; sessions = p .sessions; buffer = p .buffer; rows = p .rows; hands = p .hands; queue = p .queue; clock = p .clock; near = eqb n 1; next = p .next }) ≡ true
-    unfolding plantForm
-    marked-form f = f
+  pub marked-form : plantForm p ≡ true → plantForm (withNear p (eqb n 1)) ≡ true
+  unfolding plantForm
+  marked-form f = f

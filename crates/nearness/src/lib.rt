@@ -5,7 +5,8 @@ ghost use mathlib.Core.List.{List};
 ghost use lib.IntN.{ℤ};
 ghost use Rattle.rules.specs.Calls.{Store};
 ghost use Rattle.plant.specs.View.{plantForm};
-ghost use Rattle.promises.specs.Promise.{Answers, Leaves, Keeps};
+ghost use Rattle.plant.specs.With.{withNear};
+ghost use Rattle.promises.specs.Promise.{Answers, Performs};
 use answers::Answer;
 use answers::Refusal;
 use plant::Plant;
@@ -21,14 +22,9 @@ pub fn answer(p: Plant, mark: i64) -> Answer
     Answer::Done
 }
 
-pub fn after(mut p: Plant, mark: i64, a: Answer) -> Plant
-    ensures shows { λ r. ⌜ Leaves (Store mark) p a r ⌝ }
-    ensures form { λ r. ⌜ (plantForm p ≡ true → plantForm r ≡ true) ⌝ }
-    ensures kept { λ r. ⌜ Keeps (Store mark) p a r ⌝ }
+pub fn after(p: Plant, mark: i64) -> bool
+    ensures shows { λ r. ⌜ Performs (Store mark) p (withNear p r) ⌝ }
+    ensures form { λ r. ⌜ (plantForm p ≡ true → plantForm (withNear p r) ≡ true) ⌝ }
 {
-    if a.is_refused() {
-        return p;
-    }
-    p.near = arguments::index(mark, NEAR + 1) == NEAR;
-    p
+    arguments::index(mark, NEAR + 1) == NEAR
 }
