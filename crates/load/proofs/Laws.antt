@@ -1,6 +1,6 @@
 -- What load answers and leaves, one law for each way out.
 use mathlib.Core.Path.{_≡_, refl, sym, _∙_, ap}
-use mathlib.Core.Bool.{Bool, true, false, not, _&&_}
+use mathlib.Core.Bool.{true, false, not, _&&_}
 use mathlib.Core.List.{List, [], _∷_}
 use Prim.Native.Nat.{ℕ, _≤_, _<_}
 use lib.Dec.{eqb}
@@ -19,11 +19,10 @@ use Rattle.rules.specs.Conditions.{conditions, goodPlace, goodChange}
 use Rattle.rules.specs.Effects.{loaded}
 use Rattle.rules.specs.Step.{accepted}
 use Rattle.rules.proofs.Laws.{not-met, and-true, both, below-is}
-use Rattle.answers.specs.View.{viewAnswer, viewRefusal, isRefused}
-use Rattle.answers.specs.declared.Answer.{Answer}
+use Rattle.answers.specs.View.{viewRefusal}
 use Rattle.answers.specs.declared.Refusal.{Refusal}
-use Rattle.promises.specs.Promise.{chosen, result, Leaves}
-use Rattle.promises.proofs.Telling.{refuses, accepts, none-held, left-accepted, left-refused}
+use Rattle.promises.specs.Promise.{chosen, result, Performs}
+use Rattle.promises.proofs.Telling.{refuses, accepts, none-held, left-accepted}
 use Rattle.arguments.proofs.Numbers.{held}
 use Rattle.requests.specs.View.{refusalAt}
 use Rattle.requests.proofs.Asked.{asked-bad, asked-good, asked-is, asked-place}
@@ -37,6 +36,7 @@ use Rattle.store.specs.View.{viewStore, storeForm, ranged}
 use Rattle.store.specs.declared.Store.{Store}
 use Rattle.store.proofs.StoreLaws.{view-ranged, follow-within}
 use Rattle.plant.specs.View.{viewPlant, keptPlant, plantForm}
+use Rattle.plant.specs.With.{withStore}
 use Rattle.plant.specs.declared.Plant.{Plant}
 use Rattle.plant.proofs.Formed.{form-parts, formed}
 
@@ -88,29 +88,24 @@ module _ (p : Plant) (x y z v : ℤ) (wx : SFits w64 x) (wy : SFits w64 y) (wz :
             (rw (good, le-ltb firstSession (p .next) b, not-false (p .near) i, meeting, some-met k h, er) refl)
 
 -- ── the plant left ──
-module _ (p : Plant) (x y z v : ℤ) (a : Answer) (b : Bool) (eb : b ≡ isRefused (viewAnswer a)) where
-  pub turned-away : b ≡ true → Leaves (Load x y z v) p a p
-  turned-away h kept lent ea = left-refused (Load x y z v) lent (chosen (viewPlant p)) (viewPlant p) (viewAnswer a) ea (sym eb ∙ h) refl
+module _ (p : Plant) (x y z v : ℤ) (wx : SFits w64 x) (wy : SFits w64 y) (wz : SFits w64 z) (wv : SFits w64 v) (u : Update)
+    (es : goodPlace (held x) (held y) && goodChange (held z) (held v) ≡ true → viewUpdate u ≡ updateOf (placeOf (held x) (held y)) (natOf (held z)) (held v))
+    (st : Store) (et : viewStore st ≡ ranged (follow (viewStore (p .store)) (viewUpdate u ∷ []))) where
+  stored : goodPlace x y && goodChange z v ≡ true → viewStore st ≡ follow (viewStore (p .store)) (updateOf (placeOf x y) (natOf z) v ∷ [])
+  stored g =
+      et ∙ ap (λ (c : U.Update). ranged (follow (viewStore (p .store)) (c ∷ []))) (asked-is x y z v wx wy wz wv u es g)
+      ∙ follow-within (updateOf (placeOf x y) (natOf z) v ∷ []) (viewStore (p .store)) (view-ranged (p .store))
+      (both _ _ (place-in x y (and-true _ _ g .0)) refl)
 
-  module _ (h : b ≡ false) (wx : SFits w64 x) (wy : SFits w64 y) (wz : SFits w64 z) (wv : SFits w64 v) (u : Update)
-      (es : goodPlace (held x) (held y) && goodChange (held z) (held v) ≡ true → viewUpdate u ≡ updateOf (placeOf (held x) (held y)) (natOf (held z)) (held v))
-      (st : Store) (et : viewStore st ≡ ranged (follow (viewStore (p .store)) (viewUpdate u ∷ []))) where
-    stored : goodPlace x y && goodChange z v ≡ true → viewStore st ≡ follow (viewStore (p .store)) (updateOf (placeOf x y) (natOf z) v ∷ [])
-    stored g =
-        et ∙ ap (λ (c : U.Update). ranged (follow (viewStore (p .store)) (c ∷ []))) (asked-is x y z v wx wy wz wv u es g)
-        ∙ follow-within (updateOf (placeOf x y) (natOf z) v ∷ []) (viewStore (p .store)) (view-ranged (p .store))
-        (both _ _ (place-in x y (and-true _ _ g .0)) refl)
+  pub made : Performs (Load x y z v) p (withStore p st)
+  unfolding conditions viewPlant accepted loaded
+  made kept lent h =
+      let m = none-held (Load x y z v) lent (chosen (viewPlant p)) (viewPlant p) _ refl h in
+      let g : goodPlace x y && goodChange z v ≡ true = not-false (goodPlace x y && goodChange z v) (not-met _ outOfRange (m .0)) in
+      rw (stored g) refl
+      ∙ left-accepted (Load x y z v) lent (chosen (viewPlant p)) (viewPlant p) m
 
-    pub made : Leaves (Load x y z v) p a (record { store = st; keys = p .keys; cache = p .cache; sessions = p .sessions; buffer = p .buffer; rows = p .rows; hands = p .hands; queue = p .queue; clock = p .clock; near = p .near; next = p .next })
-    unfolding conditions viewPlant accepted loaded
-    made kept lent ea =
-        let m = none-held (Load x y z v) lent (chosen (viewPlant p)) (viewPlant p) (viewAnswer a) ea (sym eb ∙ h) in
-        let g : goodPlace x y && goodChange z v ≡ true = not-false (goodPlace x y && goodChange z v) (not-met _ outOfRange (m .0)) in
-        rw (stored g) refl
-        ∙ left-accepted (Load x y z v) lent (chosen (viewPlant p)) (viewPlant p) m
-
-    pub made-form : (storeForm (p .store) ≡ true → storeForm st ≡ true) → plantForm p ≡ true
-        → plantForm (record { store = st; keys = p .keys; cache = p .cache; sessions = p .sessions; buffer = p .buffer; rows = p .rows; hands = p .hands; queue = p .queue; clock = p .clock; near = p .near; next = p .next }) ≡ true
-    made-form fs f =
-        let t = form-parts p f in
-        formed _ (record { store = fs (t .store); keys = t .keys; cache = t .cache; sessions = t .sessions; buffer = t .buffer; rows = t .rows; hands = t .hands; queue = t .queue })
+  pub made-form : (storeForm (p .store) ≡ true → storeForm st ≡ true) → plantForm p ≡ true → plantForm (withStore p st) ≡ true
+  made-form fs f =
+      let t = form-parts p f in
+      formed _ (record { store = fs (t .store); keys = t .keys; cache = t .cache; sessions = t .sessions; buffer = t .buffer; rows = t .rows; hands = t .hands; queue = t .queue })

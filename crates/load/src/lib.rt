@@ -5,11 +5,13 @@ ghost use mathlib.Core.List.{List};
 ghost use lib.IntN.{ℤ};
 ghost use Rattle.rules.specs.Calls.{Load};
 ghost use Rattle.plant.specs.View.{plantForm};
-ghost use Rattle.promises.specs.Promise.{Answers, Leaves, Keeps};
+ghost use Rattle.plant.specs.With.{withStore};
+ghost use Rattle.promises.specs.Promise.{Answers, Performs};
 use answers::Answer;
 use answers::Refusal;
 use field::Applied;
 use plant::Plant;
+use store::Store;
 
 pub fn answer(p: Plant, document: i64, field: i64, kind: i64, value: i64) -> Answer
     ensures { λ r. ⌜ ((lent : List ℤ) → Answers (Load document field kind value) lent p r) ⌝ }
@@ -32,15 +34,10 @@ pub fn answer(p: Plant, document: i64, field: i64, kind: i64, value: i64) -> Ans
     Answer::Refused(requests::refusal(met))
 }
 
-pub fn after(mut p: Plant, document: i64, field: i64, kind: i64, value: i64, a: Answer) -> Plant
-    ensures shows { λ r. ⌜ Leaves (Load document field kind value) p a r ⌝ }
-    ensures form { λ r. ⌜ (plantForm p ≡ true → plantForm r ≡ true) ⌝ }
-    ensures kept { λ r. ⌜ Keeps (Load document field kind value) p a r ⌝ }
+pub fn after(p: Plant, document: i64, field: i64, kind: i64, value: i64) -> Store
+    ensures shows { λ r. ⌜ Performs (Load document field kind value) p (withStore p r) ⌝ }
+    ensures form { λ r. ⌜ (plantForm p ≡ true → plantForm (withStore p r) ≡ true) ⌝ }
 {
-    if a.is_refused() {
-        return p;
-    }
     let c = requests::update(document, field, kind, value);
-    p.store = p.store.changed(c);
-    p
+    p.store.changed(c)
 }
