@@ -21,16 +21,15 @@ use Rattle.rules.specs.Conditions.{conditions, goodPairs, goodCount, isZero}
 use Rattle.rules.specs.Effects.{mapped}
 use Rattle.rules.specs.Step.{accepted}
 use Rattle.rules.proofs.Laws.{byCase, not-met, and-true, or-false, below-is}
-use Rattle.answers.specs.View.{viewAnswer, isRefused}
-use Rattle.answers.specs.declared.Answer.{Answer}
-use Rattle.promises.specs.Promise.{chosen, result, Leaves}
-use Rattle.promises.proofs.Telling.{refuses, accepts, none-held, left-accepted, left-refused}
+use Rattle.promises.specs.Promise.{chosen, result, Performs}
+use Rattle.promises.proofs.Telling.{refuses, accepts, none-held, left-accepted}
 use Rattle.arguments.proofs.Numbers.{held, outside, inside, inside-is, index-is, index-lt}
 use Rattle.keys.specs.View.{viewKey, viewKeys}
 use Rattle.keys.specs.Form.{keyForm, keysForm}
 use Rattle.keys.specs.declared.Key.{Key}
 use Rattle.keys.specs.declared.Keys.{Keys}
 use Rattle.plant.specs.View.{viewPlant, keptPlant, plantForm}
+use Rattle.plant.specs.With.{withKeys}
 use Rattle.plant.specs.declared.Plant.{Plant}
 use Rattle.plant.proofs.Formed.{form-parts, formed}
 use Rattle.places.specs.View.{pairs, viewPlaces, hasStray, keyOf}
@@ -140,28 +139,23 @@ module _ (p : Plant) (x y d e f g h i j o : ℤ) (wx : SFits w64 x) (wy : SFits 
           done q = accepts (Map x y m) lent (chosen (viewPlant p)) (viewPlant p) (rw (in-range, good, le-ltb firstSession (p .next) s, old-is, not-false u nu, judged, q) refl)
 
 -- ── the plant left ──
-module _ (p : Plant) (x y d e f g h i j o : ℤ) (a : Answer) (b : Bool) (eb : b ≡ isRefused (viewAnswer a)) where
-  pub turned-away : b ≡ true → Leaves (Map x y (pairs d e f g h i j o)) p a p
-  turned-away r kept lent ea = left-refused (Map x y (pairs d e f g h i j o)) lent (chosen (viewPlant p)) (viewPlant p) (viewAnswer a) ea (sym eb ∙ r) refl
+module _ (p : Plant) (x y d e f g h i j o : ℤ) (wx : SFits w64 x) (wy : SFits w64 y)
+    (wd : SFits w64 d) (we : SFits w64 e) (wf : SFits w64 f) (wg : SFits w64 g) (wh : SFits w64 h) (wi : SFits w64 i) (wj : SFits w64 j) (wo : SFits w64 o)
+    (k : ℕ) (ek : k ≡ cond (below (held x) keyCount) (natOf (held x)) keyCount) (t : Places)
+    (es : goodPairs (pairs (held d) (held e) (held f) (held g) (held h) (held i) (held j) (held o)) ≡ true → viewPlaces t ≡ placesOf (pairs (held d) (held e) (held f) (held g) (held h) (held i) (held j) (held o)))
+    (n : ℕ) (en : n ≡ cond (below (held y) (suc placeLimit)) (natOf (held y)) (suc placeLimit)) (new : Key) (ew : viewKey new ≡ keyOf n (viewPlaces t))
+    (ks : Keys) (eks : viewKeys ks ≡ cond (ltb k keyCount) (override (viewKeys (p .keys)) k (viewKey new)) (viewKeys (p .keys))) where
+  pub with-key : Performs (Map x y (pairs d e f g h i j o)) p (withKeys p ks)
+  unfolding conditions viewPlant accepted mapped
+  with-key kept lent r =
+      let m = none-held (Map x y (pairs d e f g h i j o)) lent (chosen (viewPlant p)) (viewPlant p) _ refl r in
+      let c = and-true (below x keyCount) (goodPairs (pairs d e f g h i j o)) (not-false (below x keyCount && goodPairs (pairs d e f g h i j o)) (not-met _ outOfRange (m .0))) in
+      let v : viewPlaces t ≡ placesOf (pairs d e f g h i j o) = shown d e f g h i j o wd we wf wg wh wi wj wo t es (c .1) in
+      let q : isBad y (viewPlaces t) ≡ false = ap (isBad y) v ∙ not-met (isBad y (placesOf (pairs d e f g h i j o))) badPlaces (m .1 .1 .1 .0) in
+      rw (eks, index-lt x wx keyCount k ek (c .0), sym (index-is x wx keyCount k ek (c .0)), ew, key-is y wy n en t q, v) refl
+      ∙ left-accepted (Map x y (pairs d e f g h i j o)) lent (chosen (viewPlant p)) (viewPlant p) m
 
-  module _ (r : b ≡ false) (wx : SFits w64 x) (wy : SFits w64 y)
-      (wd : SFits w64 d) (we : SFits w64 e) (wf : SFits w64 f) (wg : SFits w64 g) (wh : SFits w64 h) (wi : SFits w64 i) (wj : SFits w64 j) (wo : SFits w64 o)
-      (k : ℕ) (ek : k ≡ cond (below (held x) keyCount) (natOf (held x)) keyCount) (t : Places)
-      (es : goodPairs (pairs (held d) (held e) (held f) (held g) (held h) (held i) (held j) (held o)) ≡ true → viewPlaces t ≡ placesOf (pairs (held d) (held e) (held f) (held g) (held h) (held i) (held j) (held o)))
-      (n : ℕ) (en : n ≡ cond (below (held y) (suc placeLimit)) (natOf (held y)) (suc placeLimit)) (new : Key) (ew : viewKey new ≡ keyOf n (viewPlaces t))
-      (ks : Keys) (eks : viewKeys ks ≡ cond (ltb k keyCount) (override (viewKeys (p .keys)) k (viewKey new)) (viewKeys (p .keys))) where
-    pub with-key : Leaves (Map x y (pairs d e f g h i j o)) p a (record { store = p .store; keys = ks; cache = p .cache; sessions = p .sessions; buffer = p .buffer; rows = p .rows; hands = p .hands; queue = p .queue; clock = p .clock; near = p .near; next = p .next })
-    unfolding conditions viewPlant accepted mapped
-    with-key kept lent ea =
-        let m = none-held (Map x y (pairs d e f g h i j o)) lent (chosen (viewPlant p)) (viewPlant p) (viewAnswer a) ea (sym eb ∙ r) in
-        let c = and-true (below x keyCount) (goodPairs (pairs d e f g h i j o)) (not-false (below x keyCount && goodPairs (pairs d e f g h i j o)) (not-met _ outOfRange (m .0))) in
-        let v : viewPlaces t ≡ placesOf (pairs d e f g h i j o) = shown d e f g h i j o wd we wf wg wh wi wj wo t es (c .1) in
-        let q : isBad y (viewPlaces t) ≡ false = ap (isBad y) v ∙ not-met (isBad y (placesOf (pairs d e f g h i j o))) badPlaces (m .1 .1 .1 .0) in
-        rw (eks, index-lt x wx keyCount k ek (c .0), sym (index-is x wx keyCount k ek (c .0)), ew, key-is y wy n en t q, v) refl
-        ∙ left-accepted (Map x y (pairs d e f g h i j o)) lent (chosen (viewPlant p)) (viewPlant p) m
-
-pub with-key-form : (p : Plant) (new : Key) (ks : Keys) → (keysForm (p .keys) ≡ true → keyForm new ≡ true → keysForm ks ≡ true) → keyForm new ≡ true → plantForm p ≡ true
-    → plantForm (record { store = p .store; keys = ks; cache = p .cache; sessions = p .sessions; buffer = p .buffer; rows = p .rows; hands = p .hands; queue = p .queue; clock = p .clock; near = p .near; next = p .next }) ≡ true
+pub with-key-form : (p : Plant) (new : Key) (ks : Keys) → (keysForm (p .keys) ≡ true → keyForm new ≡ true → keysForm ks ≡ true) → keyForm new ≡ true → plantForm p ≡ true → plantForm (withKeys p ks) ≡ true
 with-key-form p new ks fk fn q =
     let u = form-parts p q in
     formed _ (record { store = u .store; keys = fk (u .keys) fn; cache = u .cache; sessions = u .sessions; buffer = u .buffer; rows = u .rows; hands = u .hands; queue = u .queue })

@@ -5,7 +5,8 @@ ghost use mathlib.Core.List.{List};
 ghost use lib.IntN.{ℤ};
 ghost use Rattle.rules.specs.Calls.{Map};
 ghost use Rattle.plant.specs.View.{plantForm};
-ghost use Rattle.promises.specs.Promise.{Answers, Leaves, Keeps};
+ghost use Rattle.plant.specs.With.{withKeys};
+ghost use Rattle.promises.specs.Promise.{Answers, Performs};
 ghost use Rattle.places.specs.View.{pairs};
 use answers::Answer;
 use answers::Refusal;
@@ -53,7 +54,7 @@ pub fn answer(
 }
 
 pub fn after(
-    mut p: Plant,
+    p: Plant,
     key: i64,
     count: i64,
     d1: i64,
@@ -64,18 +65,12 @@ pub fn after(
     f3: i64,
     d4: i64,
     f4: i64,
-    a: Answer,
-) -> Plant
-    ensures shows { λ r. ⌜ Leaves (Map key count (pairs d1 f1 d2 f2 d3 f3 d4 f4)) p a r ⌝ }
-    ensures form { λ r. ⌜ (plantForm p ≡ true → plantForm r ≡ true) ⌝ }
-    ensures kept { λ r. ⌜ Keeps (Map key count (pairs d1 f1 d2 f2 d3 f3 d4 f4)) p a r ⌝ }
+) -> Keys
+    ensures shows { λ r. ⌜ Performs (Map key count (pairs d1 f1 d2 f2 d3 f3 d4 f4)) p (withKeys p r) ⌝ }
+    ensures form { λ r. ⌜ (plantForm p ≡ true → plantForm (withKeys p r) ≡ true) ⌝ }
 {
-    if a.is_refused() {
-        return p;
-    }
     let k = arguments::index(key, Keys::LIMIT as u8);
     let places = Places::of(d1, f1, d2, f2, d3, f3, d4, f4);
     let n = arguments::index(count, Key::LIMIT as u8 + 1);
-    p.keys = p.keys.with(k, places.key(n));
-    p
+    p.keys.with(k, places.key(n))
 }
