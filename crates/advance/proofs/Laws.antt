@@ -1,6 +1,6 @@
 -- What advance answers and leaves, one law for each way out.
 use mathlib.Core.Path.{_≡_, refl, sym, _∙_, ap}
-use mathlib.Core.Bool.{Bool, true, false, cond}
+use mathlib.Core.Bool.{true, false, cond}
 use mathlib.Core.List.{List, [], _∷_}
 use Prim.Native.Nat.{ℕ, suc, _+_, _-_, _≤_, _<_}
 use native.Mathlib.Omega.{arith}
@@ -20,10 +20,8 @@ use Rattle.rules.specs.Conditions.{conditions}
 use Rattle.rules.specs.Effects.{advanced, stays, isLost, lapse, lapsedQueue}
 use Rattle.rules.specs.Step.{accepted}
 use Rattle.rules.proofs.Laws.{byCase, not-met}
-use Rattle.answers.specs.View.{viewAnswer, isRefused}
-use Rattle.answers.specs.declared.Answer.{Answer}
-use Rattle.promises.specs.Promise.{chosen, result, Leaves}
-use Rattle.promises.proofs.Telling.{refuses, accepts, none-held, left-accepted, left-refused}
+use Rattle.promises.specs.Promise.{chosen, result, Performs}
+use Rattle.promises.proofs.Telling.{refuses, accepts, none-held, left-accepted}
 use Rattle.arguments.proofs.Numbers.{held, outside, inside, inside-is, index-is}
 use Rattle.docset.specs.Sets.{docs}
 use Rattle.keys.specs.View.{viewKeys}
@@ -39,6 +37,7 @@ use Rattle.workers.specs.declared.Queue.{Queue}
 use Rattle.plant.specs.View.{viewPlant, keptPlant, plantForm}
 use Rattle.plant.specs.declared.Plant.{Plant}
 use Rattle.plant.proofs.Formed.{form-parts, formed}
+use Rattle.advance.specs.Left.{left}
 
 -- ── the tick after some ticks ──
 module _ (clock n : ℕ) where
@@ -88,29 +87,28 @@ module _ (p : Plant) (z : ℤ) (fits : SFits w64 z) (n : ℕ) (e : n ≡ cond (b
         ∙ accepts (Advance z) lent (chosen (viewPlant p)) (viewPlant p) (rw (in-range, ticks-are, w) refl)
 
 -- ── the plant left ──
-module _ (p : Plant) (z : ℤ) (a : Answer) (b : Bool) (eb : b ≡ isRefused (viewAnswer a)) where
-  pub turned-away : b ≡ true → Leaves (Advance z) p a p
-  turned-away h kept lent ea = left-refused (Advance z) lent (chosen (viewPlant p)) (viewPlant p) (viewAnswer a) ea (sym eb ∙ h) refl
+module _ (p : Plant) (z : ℤ) (fits : SFits w64 z) (n : ℕ) (e : n ≡ cond (below (held z) (suc advanceLimit)) (natOf (held z)) (suc advanceLimit))
+    (now : ℕ) (en : now ≡ cond (ltb lastTick (p .clock + n)) (suc lastTick) (p .clock + n))
+    (lost : ℕ) (el : docs lost ≡ isLost now (viewSessions (p .sessions)))
+    (ca : Cache) (ec : viewCache ca ≡ keep (stays (docs lost) (viewKeys (p .keys))) (viewCache (p .cache)))
+    (ss : Sessions) (es : viewSessions ss ≡ each (lapse now) (viewSessions (p .sessions)))
+    (q : Queue) (eq : viewQueue q ≡ lapsedQueue now (viewQueue (p .queue))) where
+  abbrev goneOn : Plant
+  goneOn = left p (record { cache = ca; sessions = ss; queue = q; clock = now })
 
-  module _ (h : b ≡ false) (fits : SFits w64 z) (n : ℕ) (e : n ≡ cond (below (held z) (suc advanceLimit)) (natOf (held z)) (suc advanceLimit))
-      (now : ℕ) (en : now ≡ cond (ltb lastTick (p .clock + n)) (suc lastTick) (p .clock + n))
-      (lost : ℕ) (el : docs lost ≡ isLost now (viewSessions (p .sessions)))
-      (ca : Cache) (ec : viewCache ca ≡ keep (stays (docs lost) (viewKeys (p .keys))) (viewCache (p .cache)))
-      (ss : Sessions) (es : viewSessions ss ≡ each (lapse now) (viewSessions (p .sessions)))
-      (q : Queue) (eq : viewQueue q ≡ lapsedQueue now (viewQueue (p .queue))) where
-    pub gone-on : Leaves (Advance z) p a (record { store = p .store; keys = p .keys; cache = ca; sessions = ss; buffer = p .buffer; rows = p .rows; hands = p .hands; queue = q; clock = now; near = p .near; next = p .next })
-    unfolding conditions viewPlant accepted advanced
-    gone-on kept lent ea =
-        let m = none-held (Advance z) lent (chosen (viewPlant p)) (viewPlant p) (viewAnswer a) ea (sym eb ∙ h) in
-        let g : below z (suc advanceLimit) ≡ true = not-false (below z (suc advanceLimit)) (not-met _ outOfRange (m .0)) in
-        let i : natOf z ≡ n = index-is z fits (suc advanceLimit) n e g in
-        let w : ltb lastTick (p .clock + n) ≡ false = rw i at (not-met (ltb lastTick (p .clock + natOf z)) clockEnd (m .1 .0)) in
-        let t : now ≡ p .clock + natOf z = is-later (p .clock + n) now en w ∙ ap (λ (k : ℕ). p .clock + k) (sym i) in
-        rw (ec, el, es, eq, t) refl
-        ∙ left-accepted (Advance z) lent (chosen (viewPlant p)) (viewPlant p) m
+  pub gone-on : Performs (Advance z) p goneOn
+  unfolding conditions viewPlant accepted advanced
+  gone-on kept lent h =
+      let m = none-held (Advance z) lent (chosen (viewPlant p)) (viewPlant p) _ refl h in
+      let g : below z (suc advanceLimit) ≡ true = not-false (below z (suc advanceLimit)) (not-met _ outOfRange (m .0)) in
+      let i : natOf z ≡ n = index-is z fits (suc advanceLimit) n e g in
+      let w : ltb lastTick (p .clock + n) ≡ false = rw i at (not-met (ltb lastTick (p .clock + natOf z)) clockEnd (m .1 .0)) in
+      let t : now ≡ p .clock + natOf z = is-later (p .clock + n) now en w ∙ ap (λ (k : ℕ). p .clock + k) (sym i) in
+      rw (ec, el, es, eq, t) refl
+      ∙ left-accepted (Advance z) lent (chosen (viewPlant p)) (viewPlant p) m
 
-    pub gone-on-form : (cacheForm (p .cache) ≡ true → cacheForm ca ≡ true) → (sessionsForm (p .sessions) ≡ true → sessionsForm ss ≡ true) → (queueForm (p .queue) ≡ true → queueForm q ≡ true) → plantForm p ≡ true
-        → plantForm (record { store = p .store; keys = p .keys; cache = ca; sessions = ss; buffer = p .buffer; rows = p .rows; hands = p .hands; queue = q; clock = now; near = p .near; next = p .next }) ≡ true
-    gone-on-form fc fs fq f =
-        let x = form-parts p f in
-        formed _ (record { store = x .store; keys = x .keys; cache = fc (x .cache); sessions = fs (x .sessions); buffer = x .buffer; rows = x .rows; hands = x .hands; queue = fq (x .queue) })
+  pub gone-on-form : (cacheForm (p .cache) ≡ true → cacheForm ca ≡ true) → (sessionsForm (p .sessions) ≡ true → sessionsForm ss ≡ true) → (queueForm (p .queue) ≡ true → queueForm q ≡ true)
+      → plantForm p ≡ true → plantForm goneOn ≡ true
+  gone-on-form fc fs fq f =
+      let x = form-parts p f in
+      formed _ (record { store = x .store; keys = x .keys; cache = fc (x .cache); sessions = fs (x .sessions); buffer = x .buffer; rows = x .rows; hands = x .hands; queue = fq (x .queue) })

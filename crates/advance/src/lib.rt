@@ -9,10 +9,14 @@ ghost use Rattle.rules.specs.Limits.{advanceLimit, lastTick};
 ghost use Rattle.rules.specs.Values.{below, natOf};
 ghost use Rattle.rules.specs.Calls.{Advance};
 ghost use Rattle.plant.specs.View.{plantForm};
-ghost use Rattle.promises.specs.Promise.{Answers, Leaves, Keeps};
+ghost use Rattle.promises.specs.Promise.{Answers, Performs};
+ghost use Rattle.advance.specs.Left.{left};
 use answers::Answer;
 use answers::Refusal;
+use cache::Cache;
 use plant::Plant;
+use sessions::Sessions;
+use workers::Queue;
 
 const MOST_TICKS: u64 = 65535;
 
@@ -59,19 +63,28 @@ pub fn answer(p: Plant, ticks: i64) -> Answer
     Answer::Advanced(now)
 }
 
-pub fn after(mut p: Plant, ticks: i64, a: Answer) -> Plant
-    ensures shows { λ r. ⌜ Leaves (Advance ticks) p a r ⌝ }
-    ensures form { λ r. ⌜ (plantForm p ≡ true → plantForm r ≡ true) ⌝ }
-    ensures kept { λ r. ⌜ Keeps (Advance ticks) p a r ⌝ }
+// What is left of the tables that the call writes.
+pub struct Left {
+    pub cache: Cache,
+    pub sessions: Sessions,
+    pub queue: Queue,
+    pub clock: u64,
+}
+
+pub fn after(p: Plant, ticks: i64) -> Left
+    ensures shows { λ r. ⌜ Performs (Advance ticks) p (left p r) ⌝ }
+    ensures form { λ r. ⌜ (plantForm p ≡ true → plantForm (left p r) ≡ true) ⌝ }
 {
-    if a.is_refused() {
-        return p;
-    }
     let now = later(p.clock, ticks_of(ticks));
-    let lost = p.sessions.lost(now);
-    p.cache = p.cache.without(p.keys, lost);
-    p.sessions = p.sessions.lapsed(now);
-    p.queue = p.queue.lapsed(now);
-    p.clock = now;
-    p
+    let sessions = p.sessions;
+    let lost = sessions.lost(now);
+    let cache = p.cache.without(p.keys, lost);
+    let sessions = sessions.lapsed(now);
+    let queue = p.queue.lapsed(now);
+    Left {
+        cache,
+        sessions,
+        queue,
+        clock: now,
+    }
 }

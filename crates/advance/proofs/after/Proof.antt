@@ -1,15 +1,8 @@
 -- `after` meets its contract.
-use Rattle.advance.proofs.Laws.{turned-away, gone-on, gone-on-form}
-use Rattle.promises.proofs.Chosen.{and-keeps}
+use Rattle.advance.proofs.Laws.{gone-on, gone-on-form}
 use borrow.Author.Needs.{needs}
 use Rattle.advance.proofs.after.Statement.{statement}
 use Rattle.advance.proofs.after.Tie as tie
-
-is-refused-requires : tie.Need-is-refused-requires
-is-refused-requires c κs = search needs
-
-returns : tie.Need-returns
-returns c = and-keeps _ _ _ (c .before .before .args .a) (search (turned-away, needs)) (λ f. f)
 
 ticks-of-requires : tie.Need-ticks-of-requires
 ticks-of-requires c κs = search needs
@@ -29,19 +22,17 @@ lapsed-requires c κs = search needs
 lapsed-requires-2 : tie.Need-lapsed-requires-2
 lapsed-requires-2 c κs = search needs
 
-returns-2 : tie.Need-returns-2
-returns-2 c = and-keeps _ _ _ (c .before .before .before .before .before .before .before .before .args .a) (search (gone-on, needs)) (search (gone-on-form, needs))
+returns : tie.Need-returns
+returns c = (search (gone-on, needs), search (gone-on-form, needs))
 
 pub after-spec : {M : Type 1} → statement M
 after-spec =
     tie.close
     (tie.spec
-    is-refused-requires
-    returns
     ticks-of-requires
     later-requires
     lost-requires
     without-requires
     lapsed-requires
     lapsed-requires-2
-    returns-2)
+    returns)

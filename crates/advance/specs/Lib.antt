@@ -1,0 +1,2 @@
+-- What an advance leaves.
+pub mod Left
