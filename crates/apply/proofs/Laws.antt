@@ -27,10 +27,9 @@ use Rattle.rules.proofs.Laws.{byCase, and-true, not-met}
 use Rattle.rules.proofs.Tests.{all-head, all-tail}
 use Rattle.rules.proofs.Buffer.{and-false}
 use Rattle.rules.proofs.KeptTest.{kept-iff}
-use Rattle.answers.specs.View.{viewAnswer, isRefused}
-use Rattle.answers.specs.declared.Answer.{Answer}
-use Rattle.promises.specs.Promise.{chosen, result, Leaves}
-use Rattle.promises.proofs.Telling.{refuses, accepts, none-held, left-accepted, left-refused}
+use Rattle.answers.specs.View.{isRefused}
+use Rattle.promises.specs.Promise.{chosen, result, Performs}
+use Rattle.promises.proofs.Telling.{refuses, accepts, none-held, left-accepted}
 use Rattle.arguments.proofs.Numbers.{held, outside, inside, inside-is, index-is, index-lt}
 use Rattle.changes.specs.View.{viewChanges}
 use Rattle.changes.specs.declared.Changes.{Changes}
@@ -48,6 +47,8 @@ use Rattle.plant.specs.View.{viewPlant, keptPlant, plantForm}
 use Rattle.plant.specs.declared.Plant.{Plant}
 use Rattle.plant.proofs.Formed.{form-parts, formed}
 use Rattle.apply.specs.Told.{noRowFor, told}
+use Rattle.apply.specs.Left.{left}
+use Rattle.apply.specs.declared.Left.{Left}
 
 -- ── fates and hands ──
 abbrev fateCount : ℕ
@@ -193,78 +194,76 @@ module _ (p : Plant) (n : ℕ) (b : Bool) (eb : b ≡ has n (viewRows (p .rows))
           let k = kept-iff (viewPlant p) .0 (and-true (plantForm p) _ kept .1) in
           es ∙ rw ec (follow-within (batchOf n (viewBuffer (p .buffer))) (viewStore (p .store)) (view-ranged (p .store)) (ok-within (batchOf n (viewBuffer (p .buffer))) (updates-ok (p .next) n (viewBuffer (p .buffer)) (k .buffer .ok))))
 
-      pub both-there : Carries (record { store = s; keys = p .keys; cache = p .cache; sessions = p .sessions; buffer = p .buffer; rows = r; hands = p .hands; queue = p .queue; clock = p .clock; near = p .near; next = p .next })
+      pub both-there : Carries (left p (record { store = s; rows = r; hands = p .hands }))
       unfolding viewPlant carried
       both-there kept = rw (stored kept, er, ← em, lt-leb rowLimit m l, ← eb, h) refl
 
       pub both-form : (storeForm (p .store) ≡ true → storeForm s ≡ true) → (rowsForm (p .rows) ≡ true → rowsForm r ≡ true) → plantForm p ≡ true
-          → plantForm (record { store = s; keys = p .keys; cache = p .cache; sessions = p .sessions; buffer = p .buffer; rows = r; hands = p .hands; queue = p .queue; clock = p .clock; near = p .near; next = p .next }) ≡ true
+          → plantForm (left p (record { store = s; rows = r; hands = p .hands })) ≡ true
       both-form fs fr f =
           let x = form-parts p f in
           formed _ (record { store = fs (x .store); keys = x .keys; cache = x .cache; sessions = x .sessions; buffer = x .buffer; rows = fr (x .rows); hands = x .hands; queue = x .queue })
 
 -- ── the plant left ──
-module _ (p : Plant) (z y : ℤ) (a : Answer) (b : Bool) (eb : b ≡ isRefused (viewAnswer a)) where
-  pub turned-away : b ≡ true → Leaves (Apply z y) p a p
-  turned-away h kept lent ea = left-refused (Apply z y) lent (chosen (viewPlant p)) (viewPlant p) (viewAnswer a) ea (sym eb ∙ h) refl
+module _ (p : Plant) (z y : ℤ) (fy : SFits w64 y) (f : ℕ) (ef : f ≡ cond (below (held y) fateCount) (natOf (held y)) fateCount) where
+  -- what is known of an accepted call
+  record Known (lent : List ℤ) : Type 0 where
+    worker : below z workerCount ≡ true
+    fate : natOf y ≡ f
+    few : f < fateCount
+    room : sameCase fateNumber (fateOf y) arrives && noRoom (natOf z) (viewPlant p) ≡ false
+    leaves : (q : M.Plant) → q ≡ applied (fateOf y) (natOf z) (viewPlant p) → q ≡ result (Apply z y) lent p .plant
 
-  module _ (h : b ≡ false) (fy : SFits w64 y) (f : ℕ) (ef : f ≡ cond (below (held y) fateCount) (natOf (held y)) fateCount) where
-    -- what is known of an accepted call
-    record Known (lent : List ℤ) : Type 0 where
-      worker : below z workerCount ≡ true
-      fate : natOf y ≡ f
-      few : f < fateCount
-      room : sameCase fateNumber (fateOf y) arrives && noRoom (natOf z) (viewPlant p) ≡ false
-      left : (q : M.Plant) → q ≡ applied (fateOf y) (natOf z) (viewPlant p) → q ≡ result (Apply z y) lent p .plant
+  known : (lent : List ℤ) → isRefused (result (Apply z y) lent p .answer) ≡ false → Known lent
+  unfolding conditions accepted
+  known lent h =
+      let m = none-held (Apply z y) lent (chosen (viewPlant p)) (viewPlant p) _ refl h in
+      let g = and-true (below z workerCount) (goodFate y) (not-false _ (not-met _ outOfRange (m .0))) in
+      let i : below y fateCount ≡ true = sym (good-below y) ∙ g .1 in
+      record {
+        worker = g .0;
+        fate = index-is y fy fateCount f ef i;
+        few = ltb-true f fateCount (index-lt y fy fateCount f ef i);
+        room = not-met _ rowsFull (m .1 .1 .1 .0);
+        leaves = λ q e. e ∙ left-accepted (Apply z y) lent (chosen (viewPlant p)) (viewPlant p) m;
+      }
 
-    known : (lent : List ℤ) → viewAnswer a ≡ result (Apply z y) lent p .answer → Known lent
-    unfolding conditions accepted
-    known lent ea =
-        let m = none-held (Apply z y) lent (chosen (viewPlant p)) (viewPlant p) (viewAnswer a) ea (sym eb ∙ h) in
-        let g = and-true (below z workerCount) (goodFate y) (not-false _ (not-met _ outOfRange (m .0))) in
-        let i : below y fateCount ≡ true = sym (good-below y) ∙ g .1 in
-        record {
-          worker = g .0;
-          fate = index-is y fy fateCount f ef i;
-          few = ltb-true f fateCount (index-lt y fy fateCount f ef i);
-          room = not-met _ rowsFull (m .1 .1 .1 .0);
-          left = λ q e. e ∙ left-accepted (Apply z y) lent (chosen (viewPlant p)) (viewPlant p) m;
-        }
+  pub not-sent : f ≡ fateNumber C.unreached → Performs (Apply z y) p p
+  unfolding applied
+  not-sent e kept lent h = let k = known lent h in k .leaves (viewPlant p) (rw (k .fate, e) refl)
 
-    pub not-sent : f ≡ fateNumber C.unreached → Leaves (Apply z y) p a p
-    unfolding applied
-    not-sent e kept lent ea = let k = known lent ea in k .left (viewPlant p) (rw (k .fate, e) refl)
+  module _ (ne : f ≡ fateNumber C.unreached → ⊥) (fz : SFits w64 z) (w : ℕ) (ew : w ≡ cond (below (held z) workerCount) (natOf (held z)) workerCount)
+      (hand : Hand) (eh : viewHand hand ≡ viewHands (p .hands) w) (n : ℕ) (en : n ≡ handed (viewHand hand))
+      (t : Left) (et : keptPlant p ≡ true → viewPlant (left p t) ≡ cond (noRowFor (viewRows (p .rows)) n) (viewPlant p) (carried n (viewPlant p))) where
+    handed-at : below z workerCount ≡ true → n ≡ handed (viewHands (p .hands) (natOf z))
+    handed-at g = en ∙ ap handed eh ∙ rw (index-is z fz workerCount w ew g) refl
 
-    module _ (ne : f ≡ fateNumber C.unreached → ⊥) (fz : SFits w64 z) (w : ℕ) (ew : w ≡ cond (below (held z) workerCount) (natOf (held z)) workerCount)
-        (hand : Hand) (eh : viewHand hand ≡ viewHands (p .hands) w) (n : ℕ) (en : n ≡ handed (viewHand hand))
-        (q : Plant) (eq : keptPlant p ≡ true → viewPlant q ≡ cond (noRowFor (viewRows (p .rows)) n) (viewPlant p) (carried n (viewPlant p))) where
-      handed-at : below z workerCount ≡ true → n ≡ handed (viewHands (p .hands) (natOf z))
-      handed-at g = en ∙ ap handed eh ∙ rw (index-is z fz workerCount w ew g) refl
+    pub reply-lost : (f ≡ fateNumber arrives → ⊥) → Performs (Apply z y) p (left p t)
+    unfolding applied viewPlant
+    reply-lost o kept lent h =
+        let k = known lent h in
+        let e : f ≡ 1 = omega (arith, k .few, ne, o) in
+        k .leaves _ (et kept ∙ rw (k .fate, e, handed-at (k .worker)) refl)
 
-      pub reply-lost : (f ≡ fateNumber arrives → ⊥) → Leaves (Apply z y) p a q
+    module _ (e : f ≡ fateNumber arrives) (heard : Hand) (er : viewHand heard ≡ holds (handed (viewHand hand)) true)
+        (hs : Hands) (ehs : viewHands hs ≡ cond (ltb w workerCount) (override (viewHands (t .hands)) w (viewHand heard)) (viewHands (t .hands))) where
+      abbrev heard-too : Left
+      heard-too = record { store = t .store; rows = t .rows; hands = hs }
+
+      put : below z workerCount ≡ true → viewPlant (left p heard-too) ≡ withHand (natOf z) (holds n true) (viewPlant (left p t))
+      unfolding viewPlant
+      put g = rw (ehs, index-lt z fz workerCount w ew g, er, sym en, sym (index-is z fz workerCount w ew g)) refl
+
+      pub reply-heard : Performs (Apply z y) p (left p heard-too)
       unfolding applied viewPlant
-      reply-lost o kept lent ea =
-          let k = known lent ea in
-          let e : f ≡ 1 = omega (arith, k .few, ne, o) in
-          k .left (viewPlant q) (eq kept ∙ rw (k .fate, e, handed-at (k .worker)) refl)
+      reply-heard kept lent h =
+          let k = known lent h in
+          let o : noRowFor (viewRows (p .rows)) n ≡ false = rw (handed-at (k .worker)) (rw (k .fate, e) at (k .room)) in
+          let c : viewPlant (left p t) ≡ carried n (viewPlant p) = et kept ∙ rw o refl in
+          k .leaves _ (put (k .worker) ∙ ap (withHand (natOf z) (holds n true)) c ∙ rw (k .fate, e, handed-at (k .worker)) refl)
 
-      module _ (e : f ≡ fateNumber arrives) (heard : Hand) (er : viewHand heard ≡ holds (handed (viewHand hand)) true)
-          (hs : Hands) (ehs : viewHands hs ≡ cond (ltb w workerCount) (override (viewHands (q .hands)) w (viewHand heard)) (viewHands (q .hands))) where
-        put : below z workerCount ≡ true → viewPlant (record { store = q .store; keys = q .keys; cache = q .cache; sessions = q .sessions; buffer = q .buffer; rows = q .rows; hands = hs; queue = q .queue; clock = q .clock; near = q .near; next = q .next })
-            ≡ withHand (natOf z) (holds n true) (viewPlant q)
-        unfolding viewPlant
-        put g = rw (ehs, index-lt z fz workerCount w ew g, er, sym en, sym (index-is z fz workerCount w ew g)) refl
-
-        pub reply-heard : Leaves (Apply z y) p a (record { store = q .store; keys = q .keys; cache = q .cache; sessions = q .sessions; buffer = q .buffer; rows = q .rows; hands = hs; queue = q .queue; clock = q .clock; near = q .near; next = q .next })
-        unfolding applied viewPlant
-        reply-heard kept lent ea =
-            let k = known lent ea in
-            let o : noRowFor (viewRows (p .rows)) n ≡ false = rw (handed-at (k .worker)) (rw (k .fate, e) at (k .room)) in
-            let c : viewPlant q ≡ carried n (viewPlant p) = eq kept ∙ rw o refl in
-            k .left _ (put (k .worker) ∙ ap (withHand (natOf z) (holds n true)) c ∙ rw (k .fate, e, handed-at (k .worker)) refl)
-
-        pub reply-form : (plantForm p ≡ true → plantForm q ≡ true) → (handsForm (q .hands) ≡ true → handForm heard ≡ true → handsForm hs ≡ true) → handForm heard ≡ true → plantForm p ≡ true
-            → plantForm (record { store = q .store; keys = q .keys; cache = q .cache; sessions = q .sessions; buffer = q .buffer; rows = q .rows; hands = hs; queue = q .queue; clock = q .clock; near = q .near; next = q .next }) ≡ true
-        reply-form fq fh ff f =
-            let x = form-parts q (fq f) in
-            formed _ (record { store = x .store; keys = x .keys; cache = x .cache; sessions = x .sessions; buffer = x .buffer; rows = x .rows; hands = fh (x .hands) ff; queue = x .queue })
+      pub reply-form : (plantForm p ≡ true → plantForm (left p t) ≡ true) → (handsForm (t .hands) ≡ true → handForm heard ≡ true → handsForm hs ≡ true) → handForm heard ≡ true → plantForm p ≡ true
+          → plantForm (left p heard-too) ≡ true
+      reply-form ft fh ff f =
+          let x = form-parts (left p t) (ft f) in
+          formed _ (record { store = x .store; keys = x .keys; cache = x .cache; sessions = x .sessions; buffer = x .buffer; rows = x .rows; hands = fh (x .hands) ff; queue = x .queue })

@@ -1,2 +1,3 @@
--- What the parts of apply promise.
+-- What the parts of apply promise, and what it leaves.
 pub mod Told
+pub mod Left

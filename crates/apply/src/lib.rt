@@ -10,13 +10,15 @@ ghost use Rattle.workers.specs.View.{viewHand};
 ghost use Rattle.rows.specs.View.{viewRows};
 ghost use Rattle.answers.specs.View.{viewAnswer};
 ghost use Rattle.plant.specs.View.{viewPlant, keptPlant, plantForm};
-ghost use Rattle.promises.specs.Promise.{Answers, Leaves, Keeps};
+ghost use Rattle.promises.specs.Promise.{Answers, Performs};
 ghost use Rattle.apply.specs.Told.{noRowFor, told};
+ghost use Rattle.apply.specs.Left.{left};
 use answers::Answer;
 use answers::Refusal;
 use answers::Reply;
 use plant::Plant;
 use rows::Rows;
+use store::Store;
 use workers::Hand;
 use workers::Hands;
 
@@ -75,43 +77,53 @@ pub fn answer(p: Plant, worker: i64, fate: i64) -> Answer
     reply(p.rows, number, f)
 }
 
-// The store's transaction: the changes and the row, or nothing where the row is there or finds no room.
-fn carry(mut p: Plant, n: u32) -> Plant
-    ensures shows { λ r. ⌜ (keptPlant p ≡ true → viewPlant r ≡ cond (noRowFor (viewRows (p .rows)) n) (viewPlant p) (carried n (viewPlant p))) ⌝ }
-    ensures form { λ r. ⌜ (plantForm p ≡ true → plantForm r ≡ true) ⌝ }
-{
-    if p.rows.has(n) {
-        return p;
-    }
-    if Rows::LIMIT <= p.rows.len() as usize {
-        return p;
-    }
-    let changes = p.buffer.changes_of(n);
-    p.store = p.store.follow(changes);
-    p.rows = p.rows.push(n);
-    p
+// What is left of the tables that the call writes.
+pub struct Left {
+    pub store: Store,
+    pub rows: Rows,
+    pub hands: Hands,
 }
 
-pub fn after(mut p: Plant, worker: i64, fate: i64, a: Answer) -> Plant
-    ensures shows { λ r. ⌜ Leaves (Apply worker fate) p a r ⌝ }
-    ensures form { λ r. ⌜ (plantForm p ≡ true → plantForm r ≡ true) ⌝ }
-    ensures kept { λ r. ⌜ Keeps (Apply worker fate) p a r ⌝ }
+// The store's transaction: the changes and the row, or nothing where the row is there or finds no room.
+fn carry(p: Plant, n: u32) -> Left
+    ensures shows { λ r. ⌜ (keptPlant p ≡ true → viewPlant (left p r) ≡ cond (noRowFor (viewRows (p .rows)) n) (viewPlant p) (carried n (viewPlant p))) ⌝ }
+    ensures form { λ r. ⌜ (plantForm p ≡ true → plantForm (left p r) ≡ true) ⌝ }
 {
-    if a.is_refused() {
-        return p;
+    let store = p.store;
+    let rows = p.rows;
+    let hands = p.hands;
+    if rows.has(n) {
+        return Left { store, rows, hands };
     }
+    let count = rows.len();
+    if Rows::LIMIT <= count as usize {
+        return Left { store, rows, hands };
+    }
+    let changes = p.buffer.changes_of(n);
+    let store = store.follow(changes);
+    let rows = rows.push(n);
+    Left { store, rows, hands }
+}
+
+pub fn after(p: Plant, worker: i64, fate: i64) -> Left
+    ensures shows { λ r. ⌜ Performs (Apply worker fate) p (left p r) ⌝ }
+    ensures form { λ r. ⌜ (plantForm p ≡ true → plantForm (left p r) ≡ true) ⌝ }
+{
+    let hands = p.hands;
     let f = arguments::index(fate, FATES);
     if f == UNREACHED {
-        return p;
+        let store = p.store;
+        let rows = p.rows;
+        return Left { store, rows, hands };
     }
     let w = arguments::index(worker, Hands::LIMIT as u8);
-    let hand = p.hands.hand(w);
+    let hand = hands.hand(w);
     let number = hand.handed();
-    p = carry(p, number);
+    let mut t = carry(p, number);
     if f != ARRIVES {
-        return p;
+        return t;
     }
     let heard = hand.answered();
-    p.hands = p.hands.with(w, heard);
-    p
+    t.hands = t.hands.with(w, heard);
+    t
 }

@@ -44,9 +44,7 @@ use Rattle.plant.specs.View.{viewPlant, keptPlant, plantForm}
 use Rattle.plant.specs.declared.Plant.{Plant}
 use Rattle.plant.proofs.PlantLaws.{kept-parts, cache-current}
 use Rattle.plant.proofs.Formed.{form-parts, formed}
-use Rattle.answers.specs.View.{viewAnswer, isRefused}
-use Rattle.answers.specs.declared.Answer.{Answer}
-use Rattle.promises.specs.Promise.{chosen, result, Leaves}
+use Rattle.promises.specs.Promise.{chosen, result, Performs}
 use Rattle.promises.proofs.Telling.{refuses, accepts, none-held, left-accepted}
 use Rattle.promises.proofs.Numbers.{slot-is, number-is}
 use Rattle.ending.proofs.Standing.{has-slot, its-session}
@@ -120,8 +118,7 @@ session-changes : (s : Session) → sessionForm s ≡ true → changesForm (s .c
 unfolding sessionForm
 session-changes s f = and-true (leasesForm (s .shared) (s .exclusive) (s .granted)) (changesForm (s .changes)) f .1
 
-module _ (p : Plant) (z : ℤ) (fits : SFits w64 z) (a : Answer) (r : Bool) (er : r ≡ isRefused (viewAnswer a)) (h : r ≡ false)
-    (n : ℕ) (e : n ≡ cond (below (held z) (suc lastSession)) (natOf (held z)) 0)
+module _ (p : Plant) (z : ℤ) (fits : SFits w64 z) (n : ℕ) (e : n ≡ cond (below (held z) (suc lastSession)) (natOf (held z)) 0)
     (s : Session) (es : viewSession s ≡ M.session n (viewSessions (p .sessions)))
     (b : Buffer) (eb : viewBuffer b ≡ bufferedAfter n (viewChanges (s .changes)) (viewBuffer (p .buffer)))
     (c : Cache) (ec : viewCache c ≡ map (λ x. afterChanges (viewChanges (s .changes)) (viewKeys (p .keys) (x .key)) x) (viewCache (p .cache)))
@@ -134,10 +131,10 @@ module _ (p : Plant) (z : ℤ) (fits : SFits w64 z) (a : Answer) (r : Bool) (er 
   unfolding viewPlant
   brought k = ec ∙ current-all (current (viewPlant p)) (viewChanges (s .changes)) (viewKeys (p .keys)) (viewCache (p .cache)) (cache-current p k)
 
-  pub commits : Leaves (Commit z) p a left
+  pub commits : Performs (Commit z) p left
   unfolding conditions viewPlant viewSession accepted committed
-  commits k lent ea =
-      let m = none-held (Commit z) lent (chosen (viewPlant p)) (viewPlant p) (viewAnswer a) ea (sym er ∙ h) in
+  commits k lent h =
+      let m = none-held (Commit z) lent (chosen (viewPlant p)) (viewPlant p) _ refl h in
       let g : M.isSlot z (viewSessions (p .sessions)) ≡ true = not-false _ (not-met _ noSlot (m .0)) in
       let q : natOf z ≡ n = number-is (viewPlant p) (kept-parts p k) z fits n e (sym (slot-is (viewPlant p) (kept-parts p k) z fits n e) ∙ g) in
       let x : M.session (natOf z) (viewSessions (p .sessions)) .changes ≡ viewChanges (s .changes) =

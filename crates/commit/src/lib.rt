@@ -10,13 +10,16 @@ ghost use Rattle.changes.specs.Form.{changesForm};
 ghost use Rattle.buffer.specs.View.{viewBuffer};
 ghost use Rattle.buffer.specs.Form.{bufferForm};
 ghost use Rattle.plant.specs.View.{plantForm};
-ghost use Rattle.promises.specs.Promise.{Answers, Leaves, Keeps};
+ghost use Rattle.promises.specs.Promise.{Answers, Performs};
+ghost use Rattle.commit.specs.Left.{left};
 use answers::Answer;
 use answers::Refusal;
 use batch::Batch;
 use buffer::Buffer;
+use cache::Cache;
 use changes::Changes;
 use plant::Plant;
+use sessions::Sessions;
 
 // A session without changes is not buffered.
 fn buffered(b: Buffer, number: u32, changes: Changes) -> Buffer
@@ -34,10 +37,11 @@ pub fn answer(p: Plant, session: i64) -> Answer
     ensures { λ r. ⌜ ((lent : List ℤ) → Answers (Commit session) lent p r) ⌝ }
 {
     let n = arguments::session(session);
-    if !p.sessions.has(n) {
+    let sessions = p.sessions;
+    if !sessions.has(n) {
         return Answer::Refused(Refusal::NoSlot);
     }
-    let s = p.sessions.session(n);
+    let s = sessions.session(n);
     if s.is_doomed() {
         return Answer::Refused(Refusal::WasDoomed);
     }
@@ -51,23 +55,28 @@ pub fn answer(p: Plant, session: i64) -> Answer
     Answer::Committed(count + 1)
 }
 
-pub fn after(mut p: Plant, session: i64, a: Answer) -> Plant
-    ensures shows { λ r. ⌜ Leaves (Commit session) p a r ⌝ }
-    ensures form { λ r. ⌜ (plantForm p ≡ true → plantForm r ≡ true) ⌝ }
-    ensures kept { λ r. ⌜ Keeps (Commit session) p a r ⌝ }
+// What is left of the tables that the call writes.
+pub struct Left {
+    pub buffer: Buffer,
+    pub cache: Cache,
+    pub sessions: Sessions,
+}
+
+pub fn after(p: Plant, session: i64) -> Left
+    ensures shows { λ r. ⌜ Performs (Commit session) p (left p r) ⌝ }
+    ensures form { λ r. ⌜ (plantForm p ≡ true → plantForm (left p r) ≡ true) ⌝ }
 {
-    if a.ends_session() {
-        return ending::ended(p, session);
-    }
-    if a.is_refused() {
-        return p;
-    }
     let n = arguments::session(session);
-    let s = p.sessions.session(n);
+    let open = p.sessions;
+    let s = open.session(n);
     let changes = s.changes;
     let keys = p.keys;
-    p.buffer = buffered(p.buffer, n, changes);
-    p.cache = p.cache.up_to_date(keys, changes);
-    p.sessions = p.sessions.freed(n);
-    p
+    let buffer = buffered(p.buffer, n, changes);
+    let cache = p.cache.up_to_date(keys, changes);
+    let sessions = open.freed(n);
+    Left {
+        buffer,
+        cache,
+        sessions,
+    }
 }

@@ -1,6 +1,6 @@
 -- What cut answers and leaves, one law for each way out.
 use mathlib.Core.Path.{_≡_, refl, sym, _∙_}
-use mathlib.Core.Bool.{Bool, true, false, cond}
+use mathlib.Core.Bool.{true, cond}
 use mathlib.Core.List.{List, []}
 use Prim.Native.Nat.{ℕ, _≤_, _<_}
 use lib.Dec.{ltb}
@@ -19,10 +19,8 @@ use Rattle.rules.specs.Conditions.{conditions}
 use Rattle.rules.specs.Effects.{orphaned, cut}
 use Rattle.rules.specs.Step.{accepted}
 use Rattle.rules.proofs.Laws.{not-met}
-use Rattle.answers.specs.View.{viewAnswer, isRefused}
-use Rattle.answers.specs.declared.Answer.{Answer}
-use Rattle.promises.specs.Promise.{chosen, result, Leaves}
-use Rattle.promises.proofs.Telling.{refuses, accepts, none-held, left-accepted, left-refused}
+use Rattle.promises.specs.Promise.{chosen, result, Performs}
+use Rattle.promises.proofs.Telling.{refuses, accepts, none-held, left-accepted}
 use Rattle.arguments.proofs.Numbers.{held, outside, inside, index-is, index-lt}
 use Rattle.workers.specs.View.{viewHand, viewHands, viewQueue}
 use Rattle.workers.specs.Form.{handForm, handsForm, queueForm}
@@ -46,22 +44,18 @@ module _ (p : Plant) (z : ℤ) (fits : SFits w64 z) (w : ℕ) (e : w ≡ cond (b
   told l = accepts (Cut z) lent (chosen (viewPlant p)) (viewPlant p) (rw (inside z fits workerCount w e l) refl)
 
 -- ── the plant left ──
-module _ (p : Plant) (z : ℤ) (a : Answer) (b : Bool) (eb : b ≡ isRefused (viewAnswer a)) where
-  pub turned-away : b ≡ true → Leaves (Cut z) p a p
-  turned-away h kept lent ea = left-refused (Cut z) lent (chosen (viewPlant p)) (viewPlant p) (viewAnswer a) ea (sym eb ∙ h) refl
+module _ (p : Plant) (z : ℤ) (fits : SFits w64 z) (w : ℕ) (e : w ≡ cond (below (held z) workerCount) (natOf (held z)) workerCount)
+    (hand : Hand) (eh : viewHand hand ≡ empty)
+    (hs : Hands) (ehs : viewHands hs ≡ cond (ltb w workerCount) (override (viewHands (p .hands)) w (viewHand hand)) (viewHands (p .hands)))
+    (q : Queue) (eq : viewQueue q ≡ orphaned w (viewQueue (p .queue))) where
+  pub emptied : Performs (Cut z) p (record { store = p .store; keys = p .keys; cache = p .cache; sessions = p .sessions; buffer = p .buffer; rows = p .rows; hands = hs; queue = q; clock = p .clock; near = p .near; next = p .next })
+  unfolding conditions viewPlant accepted cut
+  emptied kept lent h =
+      let m = none-held (Cut z) lent (chosen (viewPlant p)) (viewPlant p) _ refl h in
+      let g : below z workerCount ≡ true = not-false (below z workerCount) (not-met _ outOfRange (m .0)) in
+      rw (ehs, index-lt z fits workerCount w e g, eh, eq, sym (index-is z fits workerCount w e g)) refl
+      ∙ left-accepted (Cut z) lent (chosen (viewPlant p)) (viewPlant p) m
 
-  module _ (h : b ≡ false) (fits : SFits w64 z) (w : ℕ) (e : w ≡ cond (below (held z) workerCount) (natOf (held z)) workerCount)
-      (hand : Hand) (eh : viewHand hand ≡ empty)
-      (hs : Hands) (ehs : viewHands hs ≡ cond (ltb w workerCount) (override (viewHands (p .hands)) w (viewHand hand)) (viewHands (p .hands)))
-      (q : Queue) (eq : viewQueue q ≡ orphaned w (viewQueue (p .queue))) where
-    pub emptied : Leaves (Cut z) p a (record { store = p .store; keys = p .keys; cache = p .cache; sessions = p .sessions; buffer = p .buffer; rows = p .rows; hands = hs; queue = q; clock = p .clock; near = p .near; next = p .next })
-    unfolding conditions viewPlant accepted cut
-    emptied kept lent ea =
-        let m = none-held (Cut z) lent (chosen (viewPlant p)) (viewPlant p) (viewAnswer a) ea (sym eb ∙ h) in
-        let g : below z workerCount ≡ true = not-false (below z workerCount) (not-met _ outOfRange (m .0)) in
-        rw (ehs, index-lt z fits workerCount w e g, eh, eq, sym (index-is z fits workerCount w e g)) refl
-        ∙ left-accepted (Cut z) lent (chosen (viewPlant p)) (viewPlant p) m
-
-    pub emptied-form : (handsForm (p .hands) ≡ true → handForm hand ≡ true → handsForm hs ≡ true) → handForm hand ≡ true → (queueForm (p .queue) ≡ true → queueForm q ≡ true) → plantForm p ≡ true
-        → plantForm (record { store = p .store; keys = p .keys; cache = p .cache; sessions = p .sessions; buffer = p .buffer; rows = p .rows; hands = hs; queue = q; clock = p .clock; near = p .near; next = p .next }) ≡ true
-    emptied-form fh ff fq = left-form p (p .buffer) hs q (λ f. f) (λ f. fh f ff) fq
+  pub emptied-form : (handsForm (p .hands) ≡ true → handForm hand ≡ true → handsForm hs ≡ true) → handForm hand ≡ true → (queueForm (p .queue) ≡ true → queueForm q ≡ true) → plantForm p ≡ true
+      → plantForm (record { store = p .store; keys = p .keys; cache = p .cache; sessions = p .sessions; buffer = p .buffer; rows = p .rows; hands = hs; queue = q; clock = p .clock; near = p .near; next = p .next }) ≡ true
+  emptied-form fh ff fq = left-form p (p .buffer) hs q (λ f. f) (λ f. fh f ff) fq

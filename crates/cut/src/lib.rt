@@ -5,12 +5,14 @@ ghost use mathlib.Core.List.{List};
 ghost use lib.IntN.{ℤ};
 ghost use Rattle.rules.specs.Calls.{Cut};
 ghost use Rattle.plant.specs.View.{plantForm};
-ghost use Rattle.promises.specs.Promise.{Answers, Leaves, Keeps};
+ghost use Rattle.promises.specs.Promise.{Answers, Performs};
+ghost use Rattle.cut.specs.Left.{left};
 use answers::Answer;
 use answers::Refusal;
 use plant::Plant;
 use workers::Hand;
 use workers::Hands;
+use workers::Queue;
 
 pub fn answer(p: Plant, worker: i64) -> Answer
     ensures { λ r. ⌜ ((lent : List ℤ) → Answers (Cut worker) lent p r) ⌝ }
@@ -22,17 +24,19 @@ pub fn answer(p: Plant, worker: i64) -> Answer
     Answer::Done
 }
 
-pub fn after(mut p: Plant, worker: i64, a: Answer) -> Plant
-    ensures shows { λ r. ⌜ Leaves (Cut worker) p a r ⌝ }
-    ensures form { λ r. ⌜ (plantForm p ≡ true → plantForm r ≡ true) ⌝ }
-    ensures kept { λ r. ⌜ Keeps (Cut worker) p a r ⌝ }
+// What is left of the tables that the call writes.
+pub struct Left {
+    pub hands: Hands,
+    pub queue: Queue,
+}
+
+pub fn after(p: Plant, worker: i64) -> Left
+    ensures shows { λ r. ⌜ Performs (Cut worker) p (left p r) ⌝ }
+    ensures form { λ r. ⌜ (plantForm p ≡ true → plantForm (left p r) ≡ true) ⌝ }
 {
-    if a.is_refused() {
-        return p;
-    }
     let w = arguments::index(worker, Hands::LIMIT as u8);
     let hand = Hand::empty();
-    p.hands = p.hands.with(w, hand);
-    p.queue = p.queue.orphaned(w);
-    p
+    let hands = p.hands.with(w, hand);
+    let queue = p.queue.orphaned(w);
+    Left { hands, queue }
 }

@@ -20,10 +20,8 @@ use Rattle.rules.specs.Conditions.{conditions}
 use Rattle.rules.specs.Effects.{ended, deleted}
 use Rattle.rules.specs.Step.{accepted}
 use Rattle.rules.proofs.Laws.{not-met}
-use Rattle.answers.specs.View.{viewAnswer, isRefused}
-use Rattle.answers.specs.declared.Answer.{Answer}
-use Rattle.promises.specs.Promise.{chosen, result, Leaves}
-use Rattle.promises.proofs.Telling.{refuses, accepts, none-held, left-accepted, left-refused}
+use Rattle.promises.specs.Promise.{chosen, result, Performs}
+use Rattle.promises.proofs.Telling.{refuses, accepts, none-held, left-accepted}
 use Rattle.arguments.proofs.Numbers.{held, outside, inside, index-is, index-lt}
 use Rattle.workers.specs.View.{viewHand, viewHands, viewQueue}
 use Rattle.workers.specs.Form.{handForm, handsForm, queueForm}
@@ -64,24 +62,20 @@ module _ (p : Plant) (z : ℤ) (fits : SFits w64 z) (w : ℕ) (e : w ≡ cond (b
         rw (eb, en, sym hand-is) (accepts (Delete z) lent (chosen (viewPlant p)) (viewPlant p) (rw (inside z fits workerCount w e l, hand-is, full-replied (viewHand h), sym ef, g) refl))
 
 -- ── the plant left ──
-module _ (p : Plant) (z : ℤ) (a : Answer) (b : Bool) (eb : b ≡ isRefused (viewAnswer a)) where
-  pub turned-away : b ≡ true → Leaves (Delete z) p a p
-  turned-away h kept lent ea = left-refused (Delete z) lent (chosen (viewPlant p)) (viewPlant p) (viewAnswer a) ea (sym eb ∙ h) refl
+module _ (p : Plant) (z : ℤ) (fits : SFits w64 z) (w : ℕ) (e : w ≡ cond (below (held z) workerCount) (natOf (held z)) workerCount)
+    (old : Hand) (eo : viewHand old ≡ viewHands (p .hands) w) (n : ℕ) (en : n ≡ handed (viewHand old)) (hand : Hand) (eh : viewHand hand ≡ empty)
+    (bs : Buffer) (ebs : viewBuffer bs ≡ unbuffer n (viewBuffer (p .buffer)))
+    (hs : Hands) (ehs : viewHands hs ≡ cond (ltb w workerCount) (override (viewHands (p .hands)) w (viewHand hand)) (viewHands (p .hands)))
+    (q : Queue) (eq : viewQueue q ≡ ended w (viewQueue (p .queue))) where
+  pub unbuffered : Performs (Delete z) p (record { store = p .store; keys = p .keys; cache = p .cache; sessions = p .sessions; buffer = bs; rows = p .rows; hands = hs; queue = q; clock = p .clock; near = p .near; next = p .next })
+  unfolding conditions viewPlant accepted deleted
+  unbuffered kept lent h =
+      let m = none-held (Delete z) lent (chosen (viewPlant p)) (viewPlant p) _ refl h in
+      let g : below z workerCount ≡ true = not-false (below z workerCount) (not-met _ outOfRange (m .0)) in
+      rw (ebs, en, eo, ehs, index-lt z fits workerCount w e g, eh, eq, sym (index-is z fits workerCount w e g)) refl
+      ∙ left-accepted (Delete z) lent (chosen (viewPlant p)) (viewPlant p) m
 
-  module _ (h : b ≡ false) (fits : SFits w64 z) (w : ℕ) (e : w ≡ cond (below (held z) workerCount) (natOf (held z)) workerCount)
-      (old : Hand) (eo : viewHand old ≡ viewHands (p .hands) w) (n : ℕ) (en : n ≡ handed (viewHand old)) (hand : Hand) (eh : viewHand hand ≡ empty)
-      (bs : Buffer) (ebs : viewBuffer bs ≡ unbuffer n (viewBuffer (p .buffer)))
-      (hs : Hands) (ehs : viewHands hs ≡ cond (ltb w workerCount) (override (viewHands (p .hands)) w (viewHand hand)) (viewHands (p .hands)))
-      (q : Queue) (eq : viewQueue q ≡ ended w (viewQueue (p .queue))) where
-    pub unbuffered : Leaves (Delete z) p a (record { store = p .store; keys = p .keys; cache = p .cache; sessions = p .sessions; buffer = bs; rows = p .rows; hands = hs; queue = q; clock = p .clock; near = p .near; next = p .next })
-    unfolding conditions viewPlant accepted deleted
-    unbuffered kept lent ea =
-        let m = none-held (Delete z) lent (chosen (viewPlant p)) (viewPlant p) (viewAnswer a) ea (sym eb ∙ h) in
-        let g : below z workerCount ≡ true = not-false (below z workerCount) (not-met _ outOfRange (m .0)) in
-        rw (ebs, en, eo, ehs, index-lt z fits workerCount w e g, eh, eq, sym (index-is z fits workerCount w e g)) refl
-        ∙ left-accepted (Delete z) lent (chosen (viewPlant p)) (viewPlant p) m
-
-    pub unbuffered-form : (bufferForm (p .buffer) ≡ true → bufferForm bs ≡ true) → (handsForm (p .hands) ≡ true → handForm hand ≡ true → handsForm hs ≡ true) → handForm hand ≡ true
-        → (queueForm (p .queue) ≡ true → queueForm q ≡ true) → plantForm p ≡ true
-        → plantForm (record { store = p .store; keys = p .keys; cache = p .cache; sessions = p .sessions; buffer = bs; rows = p .rows; hands = hs; queue = q; clock = p .clock; near = p .near; next = p .next }) ≡ true
-    unbuffered-form fb fh ff fq = left-form p bs hs q fb (λ f. fh f ff) fq
+  pub unbuffered-form : (bufferForm (p .buffer) ≡ true → bufferForm bs ≡ true) → (handsForm (p .hands) ≡ true → handForm hand ≡ true → handsForm hs ≡ true) → handForm hand ≡ true
+      → (queueForm (p .queue) ≡ true → queueForm q ≡ true) → plantForm p ≡ true
+      → plantForm (record { store = p .store; keys = p .keys; cache = p .cache; sessions = p .sessions; buffer = bs; rows = p .rows; hands = hs; queue = q; clock = p .clock; near = p .near; next = p .next }) ≡ true
+  unbuffered-form fb fh ff fq = left-form p bs hs q fb (λ f. fh f ff) fq

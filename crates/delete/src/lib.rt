@@ -5,12 +5,15 @@ ghost use mathlib.Core.List.{List};
 ghost use lib.IntN.{ℤ};
 ghost use Rattle.rules.specs.Calls.{Delete};
 ghost use Rattle.plant.specs.View.{plantForm};
-ghost use Rattle.promises.specs.Promise.{Answers, Leaves, Keeps};
+ghost use Rattle.promises.specs.Promise.{Answers, Performs};
+ghost use Rattle.delete.specs.Left.{left};
 use answers::Answer;
 use answers::Refusal;
+use buffer::Buffer;
 use plant::Plant;
 use workers::Hand;
 use workers::Hands;
+use workers::Queue;
 
 pub fn answer(p: Plant, worker: i64) -> Answer
     ensures { λ r. ⌜ ((lent : List ℤ) → Answers (Delete worker) lent p r) ⌝ }
@@ -27,20 +30,28 @@ pub fn answer(p: Plant, worker: i64) -> Answer
     Answer::Deleted(p.buffer.has(number))
 }
 
-pub fn after(mut p: Plant, worker: i64, a: Answer) -> Plant
-    ensures shows { λ r. ⌜ Leaves (Delete worker) p a r ⌝ }
-    ensures form { λ r. ⌜ (plantForm p ≡ true → plantForm r ≡ true) ⌝ }
-    ensures kept { λ r. ⌜ Keeps (Delete worker) p a r ⌝ }
+// What is left of the tables that the call writes.
+pub struct Left {
+    pub buffer: Buffer,
+    pub hands: Hands,
+    pub queue: Queue,
+}
+
+pub fn after(p: Plant, worker: i64) -> Left
+    ensures shows { λ r. ⌜ Performs (Delete worker) p (left p r) ⌝ }
+    ensures form { λ r. ⌜ (plantForm p ≡ true → plantForm (left p r) ≡ true) ⌝ }
 {
-    if a.is_refused() {
-        return p;
-    }
     let w = arguments::index(worker, Hands::LIMIT as u8);
-    let hand = p.hands.hand(w);
+    let held = p.hands;
+    let hand = held.hand(w);
     let number = hand.handed();
     let none = Hand::empty();
-    p.buffer = p.buffer.without(number);
-    p.hands = p.hands.with(w, none);
-    p.queue = p.queue.ended(w);
-    p
+    let buffer = p.buffer.without(number);
+    let hands = held.with(w, none);
+    let queue = p.queue.ended(w);
+    Left {
+        buffer,
+        hands,
+        queue,
+    }
 }

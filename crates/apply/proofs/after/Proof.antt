@@ -1,21 +1,14 @@
 -- `after` meets its contract.
-use Rattle.apply.proofs.Laws.{turned-away, not-sent, reply-lost, reply-heard, reply-form}
-use Rattle.promises.proofs.Chosen.{and-keeps}
+use Rattle.apply.proofs.Laws.{not-sent, reply-lost, reply-heard, reply-form}
 use borrow.Author.Needs.{needs}
 use Rattle.apply.proofs.after.Statement.{statement}
 use Rattle.apply.proofs.after.Tie as tie
 
-is-refused-requires : tie.Need-is-refused-requires
-is-refused-requires c κs = search needs
-
-returns : tie.Need-returns
-returns c = and-keeps _ _ _ (c .before .before .args .a) (search (turned-away, needs)) (λ f. f)
-
 index-requires : tie.Need-index-requires
 index-requires c κs = search needs
 
-returns-2 : tie.Need-returns-2
-returns-2 c = and-keeps _ _ _ (c .before .before .before .before .args .a) (search (not-sent, needs)) (λ f. f)
+returns : tie.Need-returns
+returns c = (search (not-sent, needs), λ f. f)
 
 cast-index : tie.Need-cast-index
 cast-index c = search needs
@@ -32,8 +25,8 @@ handed-requires c κs = search needs
 carry-requires : tie.Need-carry-requires
 carry-requires c κs = search needs
 
-returns-3 : tie.Need-returns-3
-returns-3 c = and-keeps _ _ _ (c .before .before .before .before .before .before .before .before .before .args .a) (search (reply-lost, needs)) (c .before .carry .ensures .1)
+returns-2 : tie.Need-returns-2
+returns-2 c = (search (reply-lost, needs), c .before .carry .ensures .1)
 
 answered-requires : tie.Need-answered-requires
 answered-requires c κs = search needs
@@ -41,23 +34,21 @@ answered-requires c κs = search needs
 with-requires : tie.Need-with-requires
 with-requires c κs = search needs
 
-returns-4 : tie.Need-returns-4
-returns-4 c = and-keeps _ _ _ (c .before .before .before .before .before .before .before .before .before .before .before .args .a) (search (reply-heard, needs)) (search (reply-form, needs))
+returns-3 : tie.Need-returns-3
+returns-3 c = (search (reply-heard, needs), search (reply-form, needs))
 
 pub after-spec : {M : Type 1} → statement M
 after-spec =
     tie.close
     (tie.spec
-    is-refused-requires
-    returns
     index-requires
-    returns-2
+    returns
     cast-index
     index-requires-2
     hand-requires
     handed-requires
     carry-requires
-    returns-3
+    returns-2
     answered-requires
     with-requires
-    returns-4)
+    returns-3)

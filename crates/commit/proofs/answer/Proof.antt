@@ -37,8 +37,8 @@ cast-if4 c = search needs
 returns-4 : tie.Need-returns-4
 returns-4 c = search (full, needs)
 
-add-t14 : tie.Need-add-t14
-add-t14 c = search needs
+add-t15 : tie.Need-add-t15
+add-t15 c = search needs
 
 returns-5 : tie.Need-returns-5
 returns-5 c = search (buffers, needs)
@@ -58,5 +58,5 @@ answer-spec =
     returns-3
     cast-if4
     returns-4
-    add-t14
+    add-t15
     returns-5)

@@ -1,15 +1,8 @@
 -- `after` meets its contract.
-use Rattle.cut.proofs.Laws.{turned-away, emptied, emptied-form}
-use Rattle.promises.proofs.Chosen.{and-keeps}
+use Rattle.cut.proofs.Laws.{emptied, emptied-form}
 use borrow.Author.Needs.{needs}
 use Rattle.cut.proofs.after.Statement.{statement}
 use Rattle.cut.proofs.after.Tie as tie
-
-is-refused-requires : tie.Need-is-refused-requires
-is-refused-requires c κs = search needs
-
-returns : tie.Need-returns
-returns c = and-keeps _ _ _ (c .before .before .args .a) (search (turned-away, needs)) (λ f. f)
 
 cast-index : tie.Need-cast-index
 cast-index c = search needs
@@ -26,18 +19,16 @@ with-requires c κs = search needs
 orphaned-requires : tie.Need-orphaned-requires
 orphaned-requires c κs = search needs
 
-returns-2 : tie.Need-returns-2
-returns-2 c = and-keeps _ _ _ (c .before .before .before .before .before .before .args .a) (search (emptied, needs)) (search (emptied-form, needs))
+returns : tie.Need-returns
+returns c = (search (emptied, needs), search (emptied-form, needs))
 
 pub after-spec : {M : Type 1} → statement M
 after-spec =
     tie.close
     (tie.spec
-    is-refused-requires
-    returns
     cast-index
     index-requires
     empty-requires
     with-requires
     orphaned-requires
-    returns-2)
+    returns)

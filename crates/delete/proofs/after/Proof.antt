@@ -1,15 +1,8 @@
 -- `after` meets its contract.
-use Rattle.delete.proofs.Laws.{turned-away, unbuffered, unbuffered-form}
-use Rattle.promises.proofs.Chosen.{and-keeps}
+use Rattle.delete.proofs.Laws.{unbuffered, unbuffered-form}
 use borrow.Author.Needs.{needs}
 use Rattle.delete.proofs.after.Statement.{statement}
 use Rattle.delete.proofs.after.Tie as tie
-
-is-refused-requires : tie.Need-is-refused-requires
-is-refused-requires c κs = search needs
-
-returns : tie.Need-returns
-returns c = and-keeps _ _ _ (c .before .before .args .a) (search (turned-away, needs)) (λ f. f)
 
 cast-index : tie.Need-cast-index
 cast-index c = search needs
@@ -35,15 +28,13 @@ with-requires c κs = search needs
 ended-requires : tie.Need-ended-requires
 ended-requires c κs = search needs
 
-returns-2 : tie.Need-returns-2
-returns-2 c = and-keeps _ _ _ (c .before .before .before .before .before .before .before .before .before .args .a) (search (unbuffered, needs)) (search (unbuffered-form, needs))
+returns : tie.Need-returns
+returns c = (search (unbuffered, needs), search (unbuffered-form, needs))
 
 pub after-spec : {M : Type 1} → statement M
 after-spec =
     tie.close
     (tie.spec
-    is-refused-requires
-    returns
     cast-index
     index-requires
     hand-requires
@@ -52,4 +43,4 @@ after-spec =
     without-requires
     with-requires
     ended-requires
-    returns-2)
+    returns)

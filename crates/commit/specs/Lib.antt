@@ -1,0 +1,2 @@
+-- What a commit leaves.
+pub mod Left

@@ -1,0 +1,2 @@
+-- What a cut leaves.
+pub mod Left

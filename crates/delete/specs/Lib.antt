@@ -1,0 +1,2 @@
+-- What a delete leaves.
+pub mod Left
