@@ -27,18 +27,16 @@ use Rattle.sessions.specs.View.{viewSessions}
 use Rattle.sessions.specs.Form.{sessionsForm}
 use Rattle.sessions.specs.declared.Sessions.{Sessions}
 use Rattle.plant.specs.View.{viewPlant, plantForm}
+use Rattle.plant.specs.With.{withSessions}
 use Rattle.plant.specs.declared.Plant.{Plant}
 use Rattle.plant.proofs.PlantLaws.{kept-parts}
-use Rattle.answers.specs.View.{viewAnswer, isRefused}
-use Rattle.answers.specs.declared.Answer.{Answer}
-use Rattle.promises.specs.Promise.{chosen, Leaves}
+use Rattle.promises.specs.Promise.{chosen, Performs}
 use Rattle.promises.proofs.Telling.{none-held, left-accepted}
 use Rattle.promises.proofs.Numbers.{slot-is, number-is}
-use Rattle.ending.proofs.Laws.{withSessions, sessions-form}
+use Rattle.ending.proofs.Laws.{sessions-form}
 use Rattle.change.proofs.Laws.{good-is, update-is}
 
 module _ (p : Plant) (z d f k v : ℤ) (fd : SFits w64 d) (ff : SFits w64 f) (fk : SFits w64 k) (fv : SFits w64 v)
-    (a : Answer) (r : Bool) (er : r ≡ isRefused (viewAnswer a)) (h : r ≡ false)
     (c : Update) (eg : not (eqb (c .kind) 0) ≡ (goodPlace (held d) (held f) && goodChange (held k) (held v)))
     (ec : goodPlace (held d) (held f) && goodChange (held k) (held v) ≡ true → viewUpdate c ≡ updateOf (placeOf (held d) (held f)) (natOf (held k)) (held v)) where
   good-if : not (eqb (c .kind) 0) ≡ (goodPlace d f && goodChange k v)
@@ -49,9 +47,9 @@ module _ (p : Plant) (z d f k v : ℤ) (fd : SFits w64 d) (ff : SFits w64 f) (fk
   was-good lent m = not-false (goodPlace d f && goodChange k v) (not-met _ outOfRange (m .0))
 
   -- not where a number was out of its range
-  pub not-outside : c .kind ≡ 0 → Leaves (Change z d f k v) p a p
-  not-outside g kept lent ea =
-      let m = none-held (Change z d f k v) lent (chosen (viewPlant p)) (viewPlant p) (viewAnswer a) ea (sym er ∙ h) in
+  pub not-outside : c .kind ≡ 0 → Performs (Change z d f k v) p p
+  not-outside g kept lent h =
+      let m = none-held (Change z d f k v) lent (chosen (viewPlant p)) (viewPlant p) _ refl h in
       absurd (true≢false (sym (was-good lent m) ∙ sym good-if ∙ ap not (eq-eqb (c .kind) 0 g)))
 
   module _ (fz : SFits w64 z) (n : ℕ) (e : n ≡ cond (below (held z) (suc lastSession)) (natOf (held z)) 0)
@@ -62,10 +60,10 @@ module _ (p : Plant) (z d f k v : ℤ) (fd : SFits w64 d) (ff : SFits w64 f) (fk
         let x = and-true (below d documentCount) (below f fieldCount) (and-true (goodPlace d f) (goodChange k v) g .0) in
         ap (λ u. ltb (u .at .document) documentCount) (update-is p z d f k v fd ff fk fv c eg ec g) ∙ lt-ltb (natOf d) documentCount (below-is d documentCount (x .0))
 
-    pub changes : Leaves (Change z d f k v) p a (withSessions p t)
+    pub changes : Performs (Change z d f k v) p (withSessions p t)
     unfolding conditions viewPlant accepted changed
-    changes kept lent ea =
-        let m = none-held (Change z d f k v) lent (chosen (viewPlant p)) (viewPlant p) (viewAnswer a) ea (sym er ∙ h) in
+    changes kept lent h =
+        let m = none-held (Change z d f k v) lent (chosen (viewPlant p)) (viewPlant p) _ refl h in
         let g = was-good lent m in
         let i : M.isSlot z (viewSessions (p .sessions)) ≡ true = not-false _ (not-met _ noSlot (m .1 .0)) in
         let q : natOf z ≡ n = number-is (viewPlant p) (kept-parts p kept) z fz n e (sym (slot-is (viewPlant p) (kept-parts p kept) z fz n e) ∙ i) in

@@ -10,8 +10,9 @@ ghost use Rattle.keys.specs.View.{viewPlace};
 ghost use Rattle.field.specs.View.{viewField};
 ghost use Rattle.changes.specs.View.{viewChanges, viewUpdate};
 ghost use Rattle.plant.specs.View.{viewPlant, plantForm};
+ghost use Rattle.plant.specs.With.{withSessions};
 ghost use Rattle.answers.specs.View.{viewAnswer};
-ghost use Rattle.promises.specs.Promise.{Answers, Leaves, Keeps};
+ghost use Rattle.promises.specs.Promise.{Answers, Performs};
 ghost use Rattle.change.specs.Met.{told, laterAnswer};
 use answers::Answer;
 use answers::Refusal;
@@ -20,6 +21,7 @@ use changes::Update;
 use field::Applied;
 use field::Field;
 use plant::Plant;
+use sessions::Sessions;
 
 // The change needs the field that is there, and it is not known.
 fn is_unknown(p: Plant, own: Changes, c: Update) -> bool
@@ -69,41 +71,25 @@ pub fn answer(p: Plant, session: i64, document: i64, field: i64, kind: i64, valu
         return Answer::Refused(Refusal::OutOfRange);
     }
     let n = arguments::session(session);
-    if !p.sessions.has(n) {
+    let sessions = p.sessions;
+    if !sessions.has(n) {
         return Answer::Refused(Refusal::NoSlot);
     }
-    let s = p.sessions.session(n);
+    let s = sessions.session(n);
     if s.is_doomed() {
         return Answer::Refused(Refusal::WasDoomed);
     }
     later(p, n, s.changes, c)
 }
 
-pub fn after(
-    mut p: Plant,
-    session: i64,
-    document: i64,
-    field: i64,
-    kind: i64,
-    value: i64,
-    a: Answer,
-) -> Plant
-    ensures shows { λ r. ⌜ Leaves (Change session document field kind value) p a r ⌝ }
-    ensures form { λ r. ⌜ (plantForm p ≡ true → plantForm r ≡ true) ⌝ }
-    ensures kept { λ r. ⌜ Keeps (Change session document field kind value) p a r ⌝ }
+pub fn after(p: Plant, session: i64, document: i64, field: i64, kind: i64, value: i64) -> Sessions
+    ensures shows { λ r. ⌜ Performs (Change session document field kind value) p (withSessions p r) ⌝ }
+    ensures form { λ r. ⌜ (plantForm p ≡ true → plantForm (withSessions p r) ≡ true) ⌝ }
 {
-    if a.ends_session() {
-        return ending::ended(p, session);
-    }
-    if a.is_refused() {
-        return p;
-    }
     let c = requests::update(document, field, kind, value);
     if c.kind == 0 {
-        return p;
+        return p.sessions;
     }
     let n = arguments::session(session);
-    let now = p.clock;
-    p.sessions = p.sessions.changed(n, c, now);
-    p
+    p.sessions.changed(n, c, p.clock)
 }

@@ -43,7 +43,7 @@ use Rattle.plant.proofs.Formed.{form-parts, formed}
 use Rattle.answers.specs.View.{viewAnswer, viewMark, isRefused}
 use Rattle.answers.specs.declared.Answer.{Answer}
 use Rattle.answers.specs.declared.Mark.{Mark}
-use Rattle.promises.specs.Promise.{chosen, result, Answers, Leaves}
+use Rattle.promises.specs.Promise.{chosen, result, Answers, Performs}
 use Rattle.promises.proofs.Telling.{none-held, left-accepted}
 use Rattle.showing.specs.Shown.{shownIn}
 use Rattle.turning.specs.Told.{told}
@@ -117,7 +117,7 @@ module _ (p : Plant) (z : ℤ) (fz : SFits w64 z) (n : ℕ) (en : n ≡ cond (be
     filled c ws e w h = w ∙ words-are p h n k lent none-meets (viewCached c .fields) e ∙ ap (λ (x : C.Result). x .words) (reads h)
 
 -- ── the plant left ──
-module _ (p : Plant) (z : ℤ) (fz : SFits w64 z) (y : ℤ) (fy : SFits w64 y) (a : Answer) (r : Bool) (er : r ≡ isRefused (viewAnswer a)) (t : r ≡ false)
+module _ (p : Plant) (z : ℤ) (fz : SFits w64 z) (y : ℤ) (fy : SFits w64 y)
     (n : ℕ) (en : n ≡ cond (below (held z) (suc lastSession)) (natOf (held z)) 0) (k : ℕ) (ek : k ≡ cond (below (held y) keyCount) (natOf (held y)) keyCount)
     (c : Cache) (ec : viewCache c ≡ cacheNow n k (viewPlant p)) (key : Key) (eq : viewKey key ≡ viewKeys (p .keys) k)
     (s : Sessions) (es : viewSessions s ≡ M.each (onlyAt n (withShared (p .clock) (within (viewKey key)))) (viewSessions (p .sessions))) where
@@ -131,11 +131,11 @@ module _ (p : Plant) (z : ℤ) (fz : SFits w64 z) (y : ℤ) (fy : SFits w64 y) (
       es ∙ ap (λ (qs : List S.Place). M.each (onlyAt n (withShared (p .clock) qs)) (viewSessions (p .sessions)))
       (ap within eq ∙ within-all (viewKeys (p .keys) k) (key-places (viewPlant p) k (kept-parts p h) l))
 
-  pub leaves : Leaves (Read z y) p a left
+  pub leaves : Performs (Read z y) p left
   unfolding viewPlant accepted afterRead
-  leaves h lent ea =
+  leaves h lent i =
       let e = named p z fz n en y fy k ek h lent in
-      let m = none-held (Read (pos n) (pos k)) lent (chosen (viewPlant p)) (viewPlant p) (viewAnswer a) (ea ∙ ap (λ (x : C.Result). x .answer) e) (sym er ∙ t) in
+      let m = none-held (Read (pos n) (pos k)) lent (chosen (viewPlant p)) (viewPlant p) _ (ap (λ (x : C.Result). x .answer) e) i in
       rw (ec ∙ cache-are p h n k lent m, shared-is h (in-range p h n k lent m)) refl
       ∙ left-accepted (Read (pos n) (pos k)) lent (chosen (viewPlant p)) (viewPlant p) m
       ∙ ap (λ (x : C.Result). x .plant) (sym e)

@@ -3,10 +3,13 @@ ghost use mathlib.Core.Path.{_≡_};
 ghost use mathlib.Core.Bool.{true};
 ghost use Rattle.rules.specs.Calls.{Read};
 ghost use Rattle.plant.specs.View.{plantForm, keptPlant};
-ghost use Rattle.promises.specs.Promise.{result, Answers, Leaves, Keeps};
+ghost use Rattle.promises.specs.Promise.{result, Answers, Performs};
+ghost use Rattle.read.specs.Left.{left};
 use answers::Answer;
+use cache::Cache;
 use keys::Keys;
 use plant::Plant;
+use sessions::Sessions;
 
 pub fn answer(p: Plant, session: i64, key: i64, words: &mut [i32]) -> Answer
     ensures answers { λ r. ⌜ Answers (Read session key) (now (words .entry)) p r ⌝ }
@@ -24,21 +27,19 @@ pub fn answer(p: Plant, session: i64, key: i64, words: &mut [i32]) -> Answer
     Answer::Read(mark)
 }
 
-pub fn after(mut p: Plant, session: i64, key: i64, a: Answer) -> Plant
-    ensures shows { λ r. ⌜ Leaves (Read session key) p a r ⌝ }
-    ensures form { λ r. ⌜ (plantForm p ≡ true → plantForm r ≡ true) ⌝ }
-    ensures kept { λ r. ⌜ Keeps (Read session key) p a r ⌝ }
+// What is left of the tables that the call writes.
+pub struct Left {
+    pub cache: Cache,
+    pub sessions: Sessions,
+}
+
+pub fn after(p: Plant, session: i64, key: i64) -> Left
+    ensures shows { λ r. ⌜ Performs (Read session key) p (left p r) ⌝ }
+    ensures form { λ r. ⌜ (plantForm p ≡ true → plantForm (left p r) ≡ true) ⌝ }
 {
-    if a.ends_session() {
-        return ending::ended(p, session);
-    }
-    if a.is_refused() {
-        return p;
-    }
     let n = arguments::session(session);
     let k = arguments::index(key, Keys::LIMIT as u8);
     let cache = marking::cached(p, n, k);
-    p.cache = cache;
-    p.sessions = p.sessions.shared(n, p.keys.key(k), p.clock);
-    p
+    let sessions = p.sessions.shared(n, p.keys.key(k), p.clock);
+    Left { cache, sessions }
 }

@@ -1,0 +1,2 @@
+-- What a read leaves.
+pub mod Left
