@@ -23,7 +23,7 @@ use Rattle.calls.specs.View.{viewCall}
 use Rattle.calls.specs.declared.Call.{Call}
 use Rattle.calls.specs.declared.Call.the-variants.{Load, Map, Begin, Read, Change, Commit, Abandon, Advance, Take, Apply, Delete, Cut, Sweep, Store, Report}
 use Rattle.calls.proofs.Call.{the-type}
-use Rattle.format.specs.Lines.{Said, says, faulty, said, answerLine}
+use Rattle.format.specs.Lines.{said, answerLine}
 use Rattle.format.specs.Serving.{lentWords, placesShown, ended, performed}
 use Rattle.keys.specs.View.{viewKeys}
 use Rattle.plant.specs.View.{viewPlant, plantForm, keptPlant}
@@ -36,10 +36,11 @@ use Rattle.columns.specs.Printed.{printed}
 use Rattle.printing.specs.Line.{longest, taken}
 use Rattle.printing.proofs.LineLaws.{line-short}
 use Rattle.lines.specs.View.{viewSaid}
-use Rattle.lines.specs.declared.Said as lines
+use Rattle.lines.specs.declared.Said.{Said}
+use Rattle.lines.specs.declared.Said.the-variants.{Says, Faulty}
 use Rattle.promises.specs.Promise.{chosen, result, Answers, Leaves, Keeps}
 use Rattle.promises.proofs.Chosen.{chosen-allowed}
-use Rattle.serving.specs.Answered.{Answered}
+use Rattle.serving.specs.Answered.{Answered, Told, Tells}
 
 -- ── the words shown ──
 abbrev others : List ℕ
@@ -84,47 +85,52 @@ unfolding taken
 within bs lent len e =
     byCase (leb (length bs) (length lent)) (λ t. let n : len ≡ length bs = e ∙ rw t refl in omega (arith, n, leb-true (length bs) (length lent) t)) (λ t. let n : len ≡ 0 = e ∙ rw t refl in omega (arith, n))
 
--- ── a call as a line asks for it ──
-module _ (p : Plant) (said : Said) (pick : C.Pick) (bs lent out : List ℕ) (len : ℕ) (room : longest ≤ length lent) (short : length bs ≤ longest)
-    (eo : out ≡ printed bs lent) (el : len ≡ taken bs lent) (eb : bs ≡ performed said pick (viewPlant p) .bytes) (allowed : Allowed pick (viewPlant p)) where
-  fits : length bs ≤ length lent
-  fits = omega (arith, room, short)
-
-  answered : (q : Plant) → viewPlant q ≡ performed said pick (viewPlant p) .plant → keptPlant q ≡ true → Answered said p lent out len q
-  answered q leaves keeps =
+-- ── what a line says is answered ──
+module _ (p : Plant) (x : Said) (bs lent out : List ℕ) (len : ℕ) (room : longest ≤ length lent) (short : length bs ≤ longest)
+    (eo : out ≡ printed bs lent) (el : len ≡ taken bs lent) (eb : bs ≡ performed (viewSaid x) (chosen (viewPlant p)) (viewPlant p) .bytes) where
+  replied : (a : Answer) → Told x p a → Tells x p lent out len a
+  replied a t =
+      let fits : length bs ≤ length lent = omega (arith, room, short) in
       let n : len ≡ length bs = el ∙ fits-taken bs lent fits in
-      record {
-        pick = pick;
-        allowed = allowed;
-        prints = eo ∙ fits-printed bs lent fits ∙ rw (n, eb) refl;
-        counts = n ∙ ap length eb;
-        leaves = leaves;
-        keeps = keeps;
-      }
+      record { prints = eo ∙ fits-printed bs lent fits ∙ rw (n, eb) refl; counts = n ∙ ap length eb; told = t }
 
+pub replies : (p : Plant) (x : Said) (c : Call) → x ≡ Says c → (a : Answer) (ws : List ℤ) (n : ℕ) (lent out : List ℕ) (len : ℕ)
+    → Answers (viewCall c) lentWords p a → (keptPlant p ≡ true → ws ≡ result (viewCall c) lentWords p .words) → length ws ≡ 32
+    → n ≡ wordsPerField * placesShown (viewCall c) (viewKeys (p .keys))
+    → out ≡ printed (ended (answerLine (viewAnswer a) (take n ws))) lent → len ≡ taken (ended (answerLine (viewAnswer a) (take n ws))) lent
+    → longest ≤ length lent → keptPlant p ≡ true → Tells x p lent out len a
+unfolding viewPlant
+replies p x c ex a ws n lent out len answers fills lw en eo el room k =
+    subst (λ y. Tells y p lent out len a) (sym ex)
+    (replied p (Says c) (ended (answerLine (viewAnswer a) (take n ws))) lent out len room (line-short a (take n ws) (rw (length-take n ws, lw) (omega arith)))
+    eo el (rw (answers k, fills k, en) refl) a (answers k))
+
+pub refuses : (p : Plant) (x : Said) (r : Refusal) → x ≡ Faulty r → (ws : List ℤ) (lent out : List ℕ) (len : ℕ) → length ws ≤ 0
+    → out ≡ printed (ended (answerLine (C.refused (viewRefusal r)) ws)) lent → len ≡ taken (ended (answerLine (C.refused (viewRefusal r)) ws)) lent
+    → longest ≤ length lent → keptPlant p ≡ true → Tells x p lent out len (answer.Refused r)
+unfolding answerLine
+refuses p x r ex ws lent out len lw eo el room k =
+    subst (λ y. Tells y p lent out len (answer.Refused r)) (sym ex)
+    (replied p (Faulty r) (ended (answerLine (C.refused (viewRefusal r)) ws)) lent out len room (line-short (answer.Refused r) ws (omega (arith, lw))) eo el refl (answer.Refused r) tt)
+
+-- ── and done ──
 allowed-here : (p : Plant) → keptPlant p ≡ true → Allowed (chosen (viewPlant p)) (viewPlant p)
 unfolding keptPlant
 allowed-here p k = chosen-allowed (viewPlant p) (and-true (plantForm p) (kept (viewPlant p)) k .1)
 
-pub performs : (p q : Plant) (c : Call) (a : Answer) (ws : List ℤ) (n : ℕ) (lent out : List ℕ) (len : ℕ)
-    → Answers (viewCall c) lentWords p a → (keptPlant p ≡ true → ws ≡ result (viewCall c) lentWords p .words) → length ws ≡ 32
-    → n ≡ wordsPerField * placesShown (viewCall c) (viewKeys (p .keys))
-    → out ≡ printed (ended (answerLine (viewAnswer a) (take n ws))) lent → len ≡ taken (ended (answerLine (viewAnswer a) (take n ws))) lent
-    → Leaves (viewCall c) p a q → Keeps (viewCall c) p a q
-    → longest ≤ length lent → keptPlant p ≡ true → Answered (says (viewCall c)) p lent out len q
-unfolding viewPlant
-performs p q c a ws n lent out len answers fills lw en eo el leaves keeps room k =
-    answered p (says (viewCall c)) (chosen (viewPlant p)) (ended (answerLine (viewAnswer a) (take n ws))) lent out len room
-    (line-short a (take n ws) (rw (length-take n ws, lw) (omega arith)))
-    eo el (rw (answers k, fills k, en) refl) (allowed-here p k) q (leaves k lentWords (answers k)) (keeps k lentWords (answers k))
+-- the plant that what a line says leaves, where this is the answer
+abbrev pub Done : Said → Plant → Answer → Plant → Type 0
+Done (Says c) p a q = Leaves (viewCall c) p a q × Keeps (viewCall c) p a q
+Done (Faulty r) p a q = q ≡ p
 
-pub refuses : (p : Plant) (r : Refusal) (lent out : List ℕ) (len : ℕ) (ws : List ℤ) → length ws ≤ 0
-    → out ≡ printed (ended (answerLine (C.refused (viewRefusal r)) ws)) lent → len ≡ taken (ended (answerLine (C.refused (viewRefusal r)) ws)) lent
-    → longest ≤ length lent → keptPlant p ≡ true → Answered (faulty (viewRefusal r)) p lent out len p
-unfolding answerLine
-refuses p r lent out len ws lw eo el room k =
-    answered p (faulty (viewRefusal r)) (chosen (viewPlant p)) (ended (answerLine (C.refused (viewRefusal r)) ws)) lent out len room
-    (line-short (answer.Refused r) ws (omega (arith, lw))) eo el refl (allowed-here p k) p refl k
+pub done : (x : Said) (p q : Plant) (lent out : List ℕ) (len : ℕ) (a : Answer) → Done x p a q
+    → (longest ≤ length lent → keptPlant p ≡ true → Tells x p lent out len a) → longest ≤ length lent → keptPlant p ≡ true → Answered (viewSaid x) p lent out len q
+done (Says c) p q lent out len a d h room k =
+    let x = h room k in
+    record { pick = chosen (viewPlant p); allowed = allowed-here p k; prints = x .prints; counts = x .counts; leaves = d .0 k lentWords (x .told); keeps = d .1 k lentWords (x .told) }
+done (Faulty r) p q lent out len a d h room k =
+    let x = h room k in
+    record { pick = chosen (viewPlant p); allowed = allowed-here p k; prints = x .prints; counts = x .counts; leaves = ap viewPlant d; keeps = ap keptPlant d ∙ k }
 
 -- ── what a line says is done ──
 abbrev Promised : List ℕ → List ℕ → List ℕ → ℕ → Plant → Plant → Type 0
@@ -132,10 +138,10 @@ Promised line lent out len p q =
     (longest ≤ length lent → keptPlant p ≡ true → Answered (said line) p lent out len q)
     × ((length lent < longest → (q ≡ p) × ((len ≡ 0) × (out ≡ lent))) × (len ≤ length lent))
 
-pub serves : (line lent out : List ℕ) (len : ℕ) (p q : Plant) (x y : lines.Said) → x ≡ y → viewSaid x ≡ said line → longest ≤ length lent → len ≤ length lent
-    → (longest ≤ length lent → keptPlant p ≡ true → Answered (viewSaid y) p lent out len q) → Promised line lent out len p q
-serves line lent out len p q x y e es room l h =
-    (λ r k. subst (λ s. Answered s p lent out len q) (ap viewSaid (sym e) ∙ es) (h r k), (λ f. absurd (omega (arith, f, room)), l))
+pub serves : (line lent out : List ℕ) (len : ℕ) (p q : Plant) (x y : Said) → x ≡ y → viewSaid x ≡ said line → longest ≤ length lent → len ≤ length lent → (a : Answer)
+    → (longest ≤ length lent → keptPlant p ≡ true → Tells x p lent out len a) → Done y p a q → Promised line lent out len p q
+serves line lent out len p q x y e es room l a h d =
+    (λ r k. subst (λ s. Answered s p lent out len q) es (done x p q lent out len a (subst (λ s. Done s p a q) (sym e) d) h r k), (λ f. absurd (omega (arith, f, room)), l))
 
 pub too-few : (line lent : List ℕ) (p : Plant) (len : ℕ) → len ≡ 0 → length lent < longest → Promised line lent lent len p p
 too-few line lent p len e h = (λ r k. absurd (omega (arith, r, h)), (λ l. (refl, (e, refl)), omega (arith, e)))

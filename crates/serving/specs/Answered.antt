@@ -7,15 +7,33 @@ use mathlib.Core.List.{List, _++_}
 use lib.ListN.{drop, length}
 use Rattle.rules.specs.Calls.{Pick}
 use Rattle.rules.specs.Step.{Allowed}
-use Rattle.format.specs.Lines.{Said}
-use Rattle.format.specs.Serving.{performed}
+use Rattle.format.specs.Lines as L
+use Rattle.format.specs.Serving.{lentWords, performed}
 use Rattle.plant.specs.View.{viewPlant, keptPlant}
 use Rattle.plant.specs.declared.Plant.{Plant}
+use Rattle.answers.specs.View.{viewAnswer}
+use Rattle.answers.specs.declared.Answer.{Answer}
+use Rattle.calls.specs.View.{viewCall}
+use Rattle.lines.specs.View.{viewSaid}
+use Rattle.lines.specs.declared.Said.{Said}
+use Rattle.lines.specs.declared.Said.the-variants.{Says, Faulty}
+use Rattle.promises.specs.Promise.{chosen, result}
 
-pub record Answered (said : Said) (p : Plant) (lent out : List ℕ) (len : ℕ) (q : Plant) : Type 0 where
+pub record Answered (said : L.Said) (p : Plant) (lent out : List ℕ) (len : ℕ) (q : Plant) : Type 0 where
   pub pick : Pick
   pub allowed : Allowed pick (viewPlant p)
   pub prints : out ≡ (performed said pick (viewPlant p)) .bytes ++ drop len lent
   pub counts : len ≡ length ((performed said pick (viewPlant p)) .bytes)
   pub leaves : viewPlant q ≡ (performed said pick (viewPlant p)) .plant
   pub keeps : keptPlant q ≡ true
+
+-- what is answered to a line that says a call
+abbrev pub Told : Said → Plant → Answer → Type 0
+Told (Says c) p a = viewAnswer a ≡ result (viewCall c) lentWords p .answer
+Told (Faulty r) p a = Unit {0}
+
+-- the same bytes for the choice that the code makes, and the answer that they tell; what is left of the plant follows from the answer
+pub record Tells (said : Said) (p : Plant) (lent out : List ℕ) (len : ℕ) (a : Answer) : Type 0 where
+  pub prints : out ≡ (performed (viewSaid said) (chosen (viewPlant p)) (viewPlant p)) .bytes ++ drop len lent
+  pub counts : len ≡ length ((performed (viewSaid said) (chosen (viewPlant p)) (viewPlant p)) .bytes)
+  pub told : Told said p a

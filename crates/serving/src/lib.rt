@@ -4,13 +4,13 @@ ghost use mathlib.Core.Path.{_≡_};
 ghost use mathlib.Core.Bool.{true};
 ghost use lib.ListN.{length};
 ghost use Rattle.rules.specs.Limits.{wordsPerField};
-ghost use Rattle.format.specs.Lines.{says, said};
+ghost use Rattle.format.specs.Lines.{said};
 ghost use Rattle.format.specs.Serving.{placesShown};
 ghost use Rattle.calls.specs.View.{viewCall};
 ghost use Rattle.keys.specs.View.{viewKeys};
 ghost use Rattle.plant.specs.View.{keptPlant};
 ghost use Rattle.printing.specs.Line.{longest};
-ghost use Rattle.serving.specs.Answered.{Answered};
+ghost use Rattle.serving.specs.Answered.{Answered, Tells};
 use answers::Answer;
 use calls::Call;
 use keys::Keys;
@@ -25,6 +25,12 @@ const WORDS: usize = 32;
 // The plant left, and how many bytes were printed.
 pub struct Served {
     pub plant: Plant,
+    pub len: usize,
+}
+
+// What is answered, and how many bytes were printed.
+pub struct Replied {
+    pub answer: Answer,
     pub len: usize,
 }
 
@@ -43,17 +49,28 @@ fn shown(keys: Keys, c: Call) -> usize
     WORDS_PER_FIELD * key.len() as usize
 }
 
-// A call as a line asks for it.
-fn perform(p: Plant, c: Call, out: &mut [u8]) -> Served
-    ensures serves { λ r. ⌜ (longest ≤ length (now (out .entry)) → keptPlant p ≡ true → Answered (says (viewCall c)) p (now (out .entry)) (now (out .exit)) (r .len) (r .plant)) ⌝ }
+// Answers what a line says, and prints the answer's line. The plant is only asked.
+pub fn reply(p: Plant, said: Said, out: &mut [u8]) -> Replied
+    ensures replies { λ r. ⌜ (longest ≤ length (now (out .entry)) → keptPlant p ≡ true → Tells said p (now (out .entry)) (now (out .exit)) (r .len) (r .answer)) ⌝ }
     ensures within { λ r. ⌜ r .len ≤ length (now (out .entry)) ⌝ }
 {
     let mut words = [0i32; WORDS];
-    let answer = dispatch::answer(p, c, &mut words);
-    let n = shown(p.keys, c);
-    let len = printing::answer(answer, &words, n, out);
-    let plant = dispatch::after(p, c, answer);
-    Served { plant, len }
+    match said {
+        Said::Says(c) => {
+            let answer = dispatch::answer(p, c, &mut words);
+            let n = shown(p.keys, c);
+            let len = printing::answer(answer, &words, n, out);
+            Replied { answer, len }
+        }
+        Said::Faulty(r) => {
+            let refused = Answer::Refused(r);
+            let len = printing::answer(refused, &words, 0, out);
+            Replied {
+                answer: refused,
+                len,
+            }
+        }
+    }
 }
 
 // Where too few bytes are lent for any answer nothing is done, and 0 bytes are printed.
@@ -66,12 +83,14 @@ pub fn serve(p: Plant, line: &[u8], out: &mut [u8]) -> Served
         return Served { plant: p, len: 0 };
     }
     let said = lines::parse(line);
+    let replied = reply(p, said, out);
+    let len = replied.len;
     match said {
-        Said::Says(c) => perform(p, c, out),
-        Said::Faulty(r) => {
-            let words = [0i32; 1];
-            let len = printing::answer(Answer::Refused(r), &words, 0, out);
-            Served { plant: p, len }
+        Said::Says(c) => {
+            let answer = replied.answer;
+            let plant = dispatch::after(p, c, answer);
+            Served { plant, len }
         }
+        Said::Faulty(_) => Served { plant: p, len },
     }
 }
