@@ -9,7 +9,7 @@ use Rattle.rules.specs.Tables as M
 use Rattle.rules.specs.Calls.{Call, Pick, Answer, refused, fine}
 use Rattle.rules.specs.Conditions.{conditions}
 use Rattle.rules.specs.Step.{accepted, sessionOf, ending, settle, step}
-use Rattle.rules.proofs.Laws.{NoneMet, none-met, byCase}
+use Rattle.rules.proofs.Laws.{NoneMet, none-met}
 use Rattle.rules.proofs.Steps.{step-fine, refused-is}
 use Rattle.answers.specs.View.{isRefused, isEnding}
 
@@ -43,7 +43,3 @@ module _ (c : Call) (lent : List ℤ) (pick : Pick) (p : M.Plant) where
   pub left-ended : (a : Answer) → a ≡ step c lent pick p .answer → isEnding a ≡ true → ending (sessionOf c) p ≡ step c lent pick p .plant
   left-ended (refused r) e s = sym (ap (λ x. x .plant) (refused-is c lent pick p r (sym e)) ∙ rw s refl)
   left-ended (fine ns) e s = absurd (true≢false (sym s))
-
-  -- a refusal of a call that has no session
-  pub left-refused : (a : Answer) → a ≡ step c lent pick p .answer → isRefused a ≡ true → sessionOf c ≡ none → p ≡ step c lent pick p .plant
-  left-refused a e h s = byCase (isEnding a) (λ b. rw (sym (left-ended a e b), s) refl) (left-stays a e h)
