@@ -1,5 +1,5 @@
 -- What sweep picks, answers and leaves, one law for each way out.
-use mathlib.Core.Path.{_≡_, refl, sym, _∙_}
+use mathlib.Core.Path.{_≡_, refl, _∙_}
 use mathlib.Core.Bool.{Bool, true, false, cond, not}
 use mathlib.Core.List.{List, [], _∷_}
 use Prim.Native.Nat.{ℕ}
@@ -17,16 +17,15 @@ use Rattle.rules.specs.Step.{accepted}
 use Rattle.lists.specs.Find.{fold}
 use Rattle.lists.specs.Table.{counted}
 use Rattle.lists.proofs.Views.{keepRoom, first-kept}
-use Rattle.answers.specs.View.{viewAnswer, isRefused}
-use Rattle.answers.specs.declared.Answer.{Answer}
-use Rattle.promises.specs.Promise.{chosen, result, Leaves}
-use Rattle.promises.proofs.Telling.{refuses, accepts, none-held, left-accepted, left-refused}
+use Rattle.promises.specs.Promise.{chosen, result, Performs}
+use Rattle.promises.proofs.Telling.{refuses, accepts, none-held, left-accepted}
 use Rattle.rows.specs.View.{viewRows, viewPicks, rowsForm}
 use Rattle.rows.specs.declared.Picks.{Picks}
 use Rattle.rows.specs.declared.Rows.{Rows}
 use Rattle.buffer.specs.View.{viewBuffer}
 use Rattle.workers.specs.View.{viewHands}
 use Rattle.plant.specs.View.{viewPlant, keptPlant, plantForm}
+use Rattle.plant.specs.With.{withRows}
 use Rattle.plant.specs.declared.Plant.{Plant}
 use Rattle.plant.proofs.Formed.{form-parts, formed}
 use Rattle.sweep.specs.MayGo.{mayGo}
@@ -65,20 +64,15 @@ module _ (p : Plant) (lent : List ℤ) (kept : keptPlant p ≡ true) where
   picks-told h l el n en = rw (en, el) (accepts Sweep lent (chosen (viewPlant p)) (viewPlant p) (rw h refl))
 
 -- ── the plant left ──
-module _ (p : Plant) (a : Answer) (b : Bool) (eb : b ≡ isRefused (viewAnswer a)) where
-  pub turned-away : b ≡ true → Leaves Sweep p a p
-  turned-away h kept lent ea = left-refused Sweep lent (chosen (viewPlant p)) (viewPlant p) (viewAnswer a) ea (sym eb ∙ h) refl
+module _ (p : Plant) (l : Picks) (el : viewPicks l ≡ take sweepLimit (keep (mayGo (viewBuffer (p .buffer)) (viewHands (p .hands))) (viewRows (p .rows))))
+    (r : Rows) (er : viewRows r ≡ keep (λ n. not (has n (viewPicks l))) (viewRows (p .rows))) where
+  pub removed : Performs Sweep p (withRows p r)
+  unfolding conditions viewPlant accepted swept chosen
+  removed kept lent h =
+      let m = none-held Sweep lent (chosen (viewPlant p)) (viewPlant p) _ refl h in
+      rw (er, el) refl ∙ left-accepted Sweep lent (chosen (viewPlant p)) (viewPlant p) m
 
-  module _ (h : b ≡ false) (l : Picks) (el : viewPicks l ≡ take sweepLimit (keep (mayGo (viewBuffer (p .buffer)) (viewHands (p .hands))) (viewRows (p .rows))))
-      (r : Rows) (er : viewRows r ≡ keep (λ n. not (has n (viewPicks l))) (viewRows (p .rows))) where
-    pub removed : Leaves Sweep p a (record { store = p .store; keys = p .keys; cache = p .cache; sessions = p .sessions; buffer = p .buffer; rows = r; hands = p .hands; queue = p .queue; clock = p .clock; near = p .near; next = p .next })
-    unfolding conditions viewPlant accepted swept chosen
-    removed kept lent ea =
-        let m = none-held Sweep lent (chosen (viewPlant p)) (viewPlant p) (viewAnswer a) ea (sym eb ∙ h) in
-        rw (er, el) refl ∙ left-accepted Sweep lent (chosen (viewPlant p)) (viewPlant p) m
-
-    pub removed-form : rowsForm r ≡ true → plantForm p ≡ true
-        → plantForm (record { store = p .store; keys = p .keys; cache = p .cache; sessions = p .sessions; buffer = p .buffer; rows = r; hands = p .hands; queue = p .queue; clock = p .clock; near = p .near; next = p .next }) ≡ true
-    removed-form fr f =
-        let x = form-parts p f in
-        formed _ (record { store = x .store; keys = x .keys; cache = x .cache; sessions = x .sessions; buffer = x .buffer; rows = fr; hands = x .hands; queue = x .queue })
+  pub removed-form : rowsForm r ≡ true → plantForm p ≡ true → plantForm (withRows p r) ≡ true
+  removed-form fr f =
+      let x = form-parts p f in
+      formed _ (record { store = x .store; keys = x .keys; cache = x .cache; sessions = x .sessions; buffer = x .buffer; rows = fr; hands = x .hands; queue = x .queue })

@@ -9,7 +9,8 @@ ghost use Rattle.rules.specs.Lists.{keep, pushed};
 ghost use Rattle.rules.specs.Calls.{Sweep};
 ghost use Rattle.rows.specs.View.{viewRows, viewPicks};
 ghost use Rattle.plant.specs.View.{plantForm};
-ghost use Rattle.promises.specs.Promise.{Answers, Leaves, Keeps};
+ghost use Rattle.plant.specs.With.{withRows};
+ghost use Rattle.promises.specs.Promise.{Answers, Performs};
 ghost use Rattle.buffer.specs.View.{viewBuffer};
 ghost use Rattle.workers.specs.View.{viewHands};
 ghost use Rattle.sweep.specs.MayGo.{mayGo};
@@ -69,15 +70,11 @@ pub fn answer(p: Plant) -> Answer
     Answer::Swept(picks.len())
 }
 
-pub fn after(mut p: Plant, a: Answer) -> Plant
-    ensures shows { λ r. ⌜ Leaves Sweep p a r ⌝ }
-    ensures form { λ r. ⌜ (plantForm p ≡ true → plantForm r ≡ true) ⌝ }
-    ensures kept { λ r. ⌜ Keeps Sweep p a r ⌝ }
+pub fn after(p: Plant) -> Rows
+    ensures shows { λ r. ⌜ Performs Sweep p (withRows p r) ⌝ }
+    ensures form { λ r. ⌜ (plantForm p ≡ true → plantForm (withRows p r) ≡ true) ⌝ }
 {
-    if a.is_refused() {
-        return p;
-    }
-    let picks = pick(p.rows, p.buffer, p.hands);
-    p.rows = p.rows.without(picks);
-    p
+    let rows = p.rows;
+    let picks = pick(rows, p.buffer, p.hands);
+    rows.without(picks)
 }
