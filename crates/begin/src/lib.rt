@@ -53,15 +53,12 @@ pub fn after(p: Plant) -> Left
     ensures shows { λ r. ⌜ Performs Begin p (left p r) ⌝ }
     ensures form { λ r. ⌜ (plantForm p ≡ true → plantForm (left p r) ≡ true) ⌝ }
 {
-    let number = p.next;
+    let next = p.next;
     let sessions = p.sessions;
-    if LAST_SESSION < number {
-        return Left {
-            sessions,
-            next: number,
-        };
+    if LAST_SESSION < next {
+        return Left { sessions, next };
     }
-    let sessions = sessions.begun(number as u32, p.clock);
-    let next = number + 1;
+    let sessions = sessions.begun(next as u32, p.clock);
+    let next = next + 1;
     Left { sessions, next }
 }
