@@ -24,13 +24,21 @@ use Rattle.plant.specs.declared.Plant.{Plant}
 use Rattle.pending.specs.View.{viewPending, pendingForm, between, endFrom}
 use Rattle.pending.proofs.Ending.{end-at, end-within, end-front, end-found, end-none, none-complete, none-unended}
 use Rattle.pending.specs.declared.Pending.{Pending}
-use Rattle.serving.specs.Answered.{Answered}
+use Rattle.answers.specs.declared.Answer.{Answer}
+use Rattle.lines.specs.View.{viewSaid}
+use Rattle.lines.specs.declared.Said.{Said}
+use Rattle.serving.specs.Answered.{Answered, Tells}
+use Rattle.serving.proofs.Laws.{Done, done}
 use Rattle.feeding.specs.Fed.{keptServer, Within, Ready, Next, Fed, Finished}
 use Rattle.feeding.specs.declared.Server.{Server}
 
 pub kept-start : (p : Plant) (t : Pending) (n m : ℕ) → keptPlant p ≡ true → viewPending t ≡ [] → keptServer (record { plant = p; pending = t; used = n; wrote = m }) ≡ true
 unfolding keptServer
 kept-start p t n m k e = rw (k, e) refl
+
+-- the server as the loop holds it
+abbrev pub at : Plant → Pending → ℕ → ℕ → Server
+at p kept used wrote = record { plant = p; pending = kept; used = used; wrote = wrote }
 
 -- ── the line ──
 pub kept-fits : (t : Pending) → pendingForm t ≡ true → length (t .line) ≡ lineLimit → t .len ≤ length (t .line)
@@ -40,19 +48,15 @@ kept-fits t f l = omega (arith, l, leb-true (t .len) lineLimit f)
 pub kept-count : (t : Pending) → pendingForm t ≡ true → length (t .line) ≡ lineLimit → t .len ≡ length (take (t .len) (t .line))
 kept-count t f l = sym (length-take-le (t .len) (t .line) (kept-fits t f l))
 
-abbrev Says : List ℕ → Plant → List ℕ → List ℕ → ℕ → Plant → Type 0
-Says line p lent out len q = longest ≤ length lent → keptPlant p ≡ true → Answered (said line) p lent out len q
-
-module _ (p q : Plant) (kept : Pending) (piece lent out : List ℕ) (from to len : ℕ) where
-  pub all-in-piece : kept .len ≡ 0 → Says (between from to piece) p lent out len q → Says (viewPending kept ++ between from to piece) p lent out len q
+module _ (kept : Pending) (piece : List ℕ) (from to : ℕ) (x : Said) where
+  pub all-in-piece : kept .len ≡ 0 → viewSaid x ≡ said (between from to piece) → viewSaid x ≡ said (viewPending kept ++ between from to piece)
   unfolding viewPending
-  all-in-piece e h r k = rw e (h r k)
+  all-in-piece e h = rw e h
 
-  pub kept-and-piece : (whole : Pending) → viewPending whole ≡ take lineLimit (viewPending kept ++ between from to piece) → Says (take (whole .len) (whole .line)) p lent out len q
-      → Says (viewPending kept ++ between from to piece) p lent out len q
+  pub kept-and-piece : (whole : Pending) → viewPending whole ≡ take lineLimit (viewPending kept ++ between from to piece) → viewSaid x ≡ said (take (whole .len) (whole .line))
+      → viewSaid x ≡ said (viewPending kept ++ between from to piece)
   unfolding viewPending
-  kept-and-piece whole e h r k =
-      subst (λ s. Answered s p lent out len q) (ap said e ∙ short (viewPending kept ++ between from to piece)) (h r k)
+  kept-and-piece whole e h = h ∙ (ap said e ∙ short (viewPending kept ++ between from to piece))
 
 -- ── one line more, or the rest of the piece ──
 record Kept (s : Server) : Type 0 where
@@ -185,6 +189,11 @@ module _ (s : Server) (piece lent : List ℕ) (end : ℕ) (ee : end ≡ endFrom 
           ((omega (arith, found), omega (arith, l, m, r .1)), omega (arith, a)),
         )
 
+    -- what the line says is told and done
+    pub line-fed : (x : Said) → viewSaid x ≡ said (u ++ rest) → (a : Answer) → (longest ≤ length room → keptPlant (s .plant) ≡ true → Tells x (s .plant) room part len a) → len ≤ length room
+        → Done x (s .plant) a q → (keptServer s ≡ true → Next s piece lent out answered) × ((Within answered piece lent) × (s .used < end + 1))
+    line-fed x es a t l d = one-line (λ r k. subst (λ z. Answered z (s .plant) room part len q) es (done x (s .plant) q room part len a d t r k)) l
+
 -- ── the pieces of a piece ──
 pub record Feeding (piece lent : List ℕ) (s : Server) (out : List ℕ) (t : Server) : Type 0 where
   pub long : length out ≡ length lent
@@ -236,6 +245,19 @@ feed-next piece lent out out′ s t r f l n w =
     }
 
 -- the server that a piece was taken from began with nothing used; where there is room for an answer more, all of the piece is used
+-- a line of the piece is told and done
+module _ (piece lent out : List ℕ) (s t : Server) (f : Feeding piece lent s out t) (end : ℕ) (ee : end ≡ endFrom (t .used) piece) (ready : Ready t piece out) (found : end < length piece)
+    (q : Plant) (kept : Pending) (ek : viewPending kept ≡ []) (len : ℕ) (part : List ℕ) where
+  abbrev lines-out : List ℕ
+  lines-out = putMid (t .wrote) (length out - t .wrote) out part
+
+  pub feed-line : length lines-out ≡ length out → (x : Said) → viewSaid x ≡ said (viewPending (t .pending) ++ between (t .used) end piece) → (a : Answer)
+      → (longest ≤ length (take (length out - t .wrote) (drop (t .wrote) out)) → keptPlant (t .plant) ≡ true → Tells x (t .plant) (take (length out - t .wrote) (drop (t .wrote) out)) part len a)
+      → len ≤ length (take (length out - t .wrote) (drop (t .wrote) out)) → Done x (t .plant) a q → Feeding piece lent s lines-out (at q kept (end + 1) (t .wrote + len))
+  feed-line l x es a h w d =
+      let n = line-fed t piece out end ee ready found q kept ek len part x es a h w d in
+      feed-next piece lent out lines-out s t (at q kept (end + 1) (t .wrote + len)) f l (n .0) (n .1 .0)
+
 pub feed-end : (s : Server) (piece lent out : List ℕ) (t : Server) → Feeding piece lent (record { plant = s .plant; pending = s .pending; used = 0; wrote = 0 }) out t
     → (t .wrote + longest ≤ length lent → t .used ≡ length piece)
     → (keptServer s ≡ true → Fed s piece out t) × (Within t piece lent × (t .wrote + longest ≤ length lent → t .used ≡ length piece))
@@ -252,19 +274,16 @@ module _ (s : Server) (e : Bool) (ee : e ≡ isEmpty (viewPending (s .pending)))
   pub no-last : e ≡ true → (lent : List ℕ) → (longest ≤ length lent → keptServer s ≡ true → Finished s lent (record { plant = s .plant; pending = s .pending; used = 0; wrote = 0 }))
   no-last t lent r k = record { serves = rw (← ee, t) (refl, refl); keeps = opened s k .plant }
 
-  pub last-line : e ≡ false → (lent out none : List ℕ) (len : ℕ) (q : Plant) (kept : Pending)
-      → (longest ≤ length lent → keptPlant (s .plant) ≡ true → Answered (said (viewPending (s .pending) ++ between 0 0 none)) (s .plant) lent out len q)
+  pub last-line : e ≡ false → (lent out none : List ℕ) (len : ℕ) (q : Plant) (kept : Pending) (x : Said) → viewSaid x ≡ said (viewPending (s .pending) ++ between 0 0 none) → (a : Answer)
+      → (longest ≤ length lent → keptPlant (s .plant) ≡ true → Tells x (s .plant) lent out len a) → Done x (s .plant) a q
       → longest ≤ length lent → keptServer s ≡ true → Finished s out (record { plant = q; pending = kept; used = 0; wrote = len })
   unfolding serve
-  last-line t lent out none len q kept h r k =
+  last-line t lent out none len q kept y ey a h d r k =
       let v = viewPending (s .pending) in
-      let x = h r (opened s k .plant) in
-      let bs = performed (said (v ++ between 0 0 none)) (x .pick) (viewPlant (s .plant)) .bytes in
       let w : v ++ between 0 0 none ≡ v = ap (λ m. v ++ m) (nothing-between 0 none) ∙ append-nil v in
+      let x : Answered (said v) (s .plant) lent out len q = subst (λ z. Answered z (s .plant) lent out len q) (ey ∙ ap said w) (done y (s .plant) q lent out len a d h r (opened s k .plant)) in
+      let bs = performed (said v) (x .pick) (viewPlant (s .plant)) .bytes in
       let filled : take len out ≡ bs = ap (take len) (x .prints) ∙ take-at bs (drop len lent) len (sym (x .counts)) in
-      let one : Serves ((v ++ between 0 0 none) ∷ []) (viewPlant (s .plant)) (take len out) (viewPlant q) = (x .pick, (x .allowed, ([], (filled ∙ sym (append-nil bs), (refl, x .leaves))))) in
+      let one : Serves (v ∷ []) (viewPlant (s .plant)) (take len out) (viewPlant q) = (x .pick, (x .allowed, ([], (filled ∙ sym (append-nil bs), (refl, x .leaves))))) in
       let last : lastLine v ≡ v ∷ [] = rw (← ee, t) refl in
-      record {
-        serves = subst (λ ls. Serves ls (viewPlant (s .plant)) (take len out) (viewPlant q)) (ap (λ m. m ∷ []) w ∙ sym last) one;
-        keeps = x .keeps;
-      }
+      record { serves = subst (λ ls. Serves ls (viewPlant (s .plant)) (take len out) (viewPlant q)) (sym last) one; keeps = x .keeps }

@@ -1,6 +1,6 @@
 // A server of lines: it takes input in pieces of any size, answers each line once byte 10 has ended it, and keeps of a line that is not
 // ended its first bytes.
-ghost use Prim.Native.Nat.{_+_, _≤_, _<_};
+ghost use Prim.Native.Nat.{_+_, _≤_};
 ghost use mathlib.Core.Path.{_≡_};
 ghost use mathlib.Core.Bool.{true};
 ghost use mathlib.Core.List.{[], _++_};
@@ -10,11 +10,11 @@ ghost use Rattle.format.specs.Lines.{said};
 ghost use Rattle.printing.specs.Line.{longest};
 ghost use Rattle.plant.specs.View.{viewPlant, keptPlant};
 ghost use Rattle.pending.specs.View.{viewPending, between};
-ghost use Rattle.serving.specs.Answered.{Answered};
-ghost use Rattle.feeding.specs.Fed.{keptServer, Within, Ready, Next, Fed, Finished};
+ghost use Rattle.lines.specs.View.{viewSaid};
+ghost use Rattle.feeding.specs.Fed.{keptServer, Within, Fed, Finished};
+use lines::Said;
 use pending::Pending;
 use plant::Plant;
-use serving::Served;
 
 // The plant, what is kept of a line that is not ended, and how many bytes of the last piece were used, and of those lent with it filled.
 pub struct Server {
@@ -41,51 +41,18 @@ impl Server {
     }
 }
 
-// Serves the line of what is kept and the piece's bytes from one position up to another.
-fn line(p: Plant, kept: Pending, piece: &[u8], from: usize, to: usize, out: &mut [u8]) -> Served
+// What the line of what is kept and the piece's bytes from one position up to another says.
+fn heard(kept: Pending, piece: &[u8], from: usize, to: usize) -> Said
     requires { ⌜ (from ≤ to) × (to ≤ length (now piece)) ⌝ }
-    ensures serves { λ r. ⌜ (longest ≤ length (now (out .entry)) → keptPlant p ≡ true → Answered (said (viewPending kept ++ between from to (now (piece .entry)))) p (now (out .entry)) (now (out .exit)) (r .len) (r .plant)) ⌝ }
-    ensures within { λ r. ⌜ r .len ≤ length (now (out .entry)) ⌝ }
+    ensures { λ r. ⌜ viewSaid r ≡ said (viewPending kept ++ between from to (now (piece .entry))) ⌝ }
 {
     if kept.len == 0 {
-        return serving::serve(p, &piece[from..to], out);
+        return lines::parse(&piece[from..to]);
     }
     let whole = kept.add(piece, from, to);
     let bytes = whole.line;
     let len = whole.len as usize;
-    serving::serve(p, &bytes[..len], out)
-}
-
-// One line more of the piece, or the rest of it.
-fn next(s: Server, piece: &[u8], out: &mut [u8]) -> Server
-    requires { ⌜ Ready s (now piece) (now out) ⌝ }
-    ensures feeds { λ r. ⌜ (keptServer s ≡ true → Next s (now (piece .entry)) (now (out .entry)) (now (out .exit)) r) ⌝ }
-    ensures within { λ r. ⌜ Within r (now (piece .entry)) (now (out .entry)) ⌝ }
-    ensures further { λ r. ⌜ s .used < r .used ⌝ }
-{
-    let from = s.used;
-    let at = s.wrote;
-    let end = pending::line_end(piece, from);
-    if piece.len() <= end {
-        let kept = s.pending;
-        let pending = kept.add(piece, from, end);
-        let plant = s.plant;
-        return Server {
-            plant,
-            pending,
-            used: end,
-            wrote: at,
-        };
-    }
-    let served = line(s.plant, s.pending, piece, from, end, &mut out[at..]);
-    let plant = served.plant;
-    let pending = Pending::empty();
-    Server {
-        plant,
-        pending,
-        used: end + 1,
-        wrote: at + served.len,
-    }
+    lines::parse(&bytes[..len])
 }
 
 // Takes the piece as far as there is room for its answers.
@@ -94,21 +61,46 @@ pub fn feed(s: Server, piece: &[u8], out: &mut [u8]) -> Server
     ensures within { λ r. ⌜ Within r (now (piece .entry)) (now (out .entry)) ⌝ }
     ensures all { λ r. ⌜ (r .wrote + longest ≤ length (now (out .entry)) → r .used ≡ length (now (piece .entry))) ⌝ }
 {
-    let plant = s.plant;
-    let pending = s.pending;
-    let mut t = Server {
-        plant,
-        pending,
-        used: 0,
-        wrote: 0,
-    };
-    while t.used < piece.len() {
-        if out.len() - t.wrote < printing::LONGEST {
-            return t;
+    let mut p = s.plant;
+    let mut kept = s.pending;
+    let mut used: usize = 0;
+    let mut wrote: usize = 0;
+    while used < piece.len() {
+        if out.len() - wrote < printing::LONGEST {
+            return Server {
+                plant: p,
+                pending: kept,
+                used,
+                wrote,
+            };
         }
-        t = next(t, piece, out);
+        let end = pending::line_end(piece, used);
+        if piece.len() <= end {
+            let pending = kept.add(piece, used, end);
+            return Server {
+                plant: p,
+                pending,
+                used: end,
+                wrote,
+            };
+        }
+        let said = heard(kept, piece, used, end);
+        let replied = serving::reply(p, said, &mut out[wrote..]);
+        kept = Pending::empty();
+        used = end + 1;
+        wrote += replied.len;
+        let Said::Says(c) = said else {
+            continue;
+        };
+        let a = replied.answer;
+        p = dispatch::after(p, c, a);
     }
-    t
+    Server {
+        plant: p,
+        pending: kept,
+        used,
+        wrote,
+    }
 }
 
 // The end of input ends a line that has begun.
@@ -117,9 +109,10 @@ pub fn finish(s: Server, out: &mut [u8]) -> Server
     ensures within { λ r. ⌜ r .wrote ≤ length (now (out .entry)) ⌝ }
 {
     let none = [0u8; 1];
+    let plant = s.plant;
     let kept = s.pending;
+    let pending = Pending::empty();
     if kept.is_empty() {
-        let plant = s.plant;
         return Server {
             plant,
             pending: kept,
@@ -127,13 +120,22 @@ pub fn finish(s: Server, out: &mut [u8]) -> Server
             wrote: 0,
         };
     }
-    let served = line(s.plant, kept, &none, 0, 0, out);
-    let plant = served.plant;
-    let pending = Pending::empty();
+    let said = heard(kept, &none, 0, 0);
+    let replied = serving::reply(plant, said, out);
+    let Said::Says(c) = said else {
+        return Server {
+            plant,
+            pending,
+            used: 0,
+            wrote: replied.len,
+        };
+    };
+    let a = replied.answer;
+    let left = dispatch::after(plant, c, a);
     Server {
-        plant,
+        plant: left,
         pending,
         used: 0,
-        wrote: served.len,
+        wrote: replied.len,
     }
 }

@@ -1,2 +1,2 @@
 -- The proofs of serving.
-mod Laws
+pub mod Laws
