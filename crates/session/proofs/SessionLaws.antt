@@ -230,13 +230,13 @@ within-all [] h = refl
 within-all (q ∷ qs) h = rw (and-true (ltb (q .document) 64) (ltb (q .field) 4) (all-head S.inRange q qs h) .0, within-all qs (all-tail S.inRange q qs h))
 
 module _ (s : Session) (n : ℕ) (f : M.Session → M.Session) where
-  pub own-is : (r : Session) → s .number ≡ n → viewSlot r ≡ M.remade (λ m. f) (viewSlot s) → viewSlot r ≡ M.remade (onlyAt n f) (viewSlot s)
+  pub own-is : (r : Session) → n ≡ s .number → viewSlot r ≡ M.remade (λ m. f) (viewSlot s) → viewSlot r ≡ M.remade (onlyAt n f) (viewSlot s)
   unfolding onlyAt viewSlot
-  own-is r h e = e ∙ rw (eq-eqb (s .number) n h)
+  own-is r h e = e ∙ rw (eq-eqb (s .number) n (sym h))
 
-  pub own-other : (s .number ≡ n → ⊥) → viewSlot s ≡ M.remade (onlyAt n f) (viewSlot s)
+  pub own-other : (n ≡ s .number → ⊥) → viewSlot s ≡ M.remade (onlyAt n f) (viewSlot s)
   unfolding onlyAt viewSlot
-  own-other h = rw (ne-eqb (s .number) n h)
+  own-other h = rw (ne-eqb (s .number) n (λ e. h (sym e)))
 
 -- ── an exclusive lease, if there is such a document ──
 module _ (s : Session) (d now : ℕ) where
@@ -265,6 +265,16 @@ pub last-shows : (s : Session) (c : Update) (cs : Changes) → viewChanges cs �
 unfolding viewSlot viewSession withLast
 last-shows s c cs e = rw e
 
+-- ── whom a change meets ──
+module _ (s : Session) (n d : ℕ) where
+  pub meets-own : s .number ≡ n → true ≡ eqb (viewSlot s .number) n || M.isHeld (viewSession s .lease d)
+  unfolding viewSlot
+  meets-own h = rw (eq-eqb (s .number) n h)
+
+  pub meets-other : {r : Bool} → (s .number ≡ n → ⊥) → r ≡ M.isHeld (viewSession s .lease d) → r ≡ eqb (viewSlot s .number) n || M.isHeld (viewSession s .lease d)
+  unfolding viewSlot
+  meets-other h e = e ∙ rw (ne-eqb (s .number) n h)
+
 -- ── the effect of a change on one session, if there is such a document ──
 module _ (s : Session) (n now : ℕ) (c : Update) where
   abbrev Granted : Session → Type 0
@@ -286,3 +296,13 @@ module _ (s : Session) (n now : ℕ) (c : Update) where
       pub grant-other : b ≡ false → Granted s
       unfolding grant viewSlot viewUpdate viewPlace
       grant-other t = rw (lt-ltb (c .place .document) 64 l, ne-eqb (s .number) n h, ← e, t)
+
+  -- what it does nothing to
+  module _ {b : Bool} (e : b ≡ eqb (viewSlot s .number) n || M.isHeld (viewSession s .lease (c .place .document))) where
+    pub grant-none : b ≡ false → Granted s
+    unfolding grant viewSlot viewUpdate viewPlace
+    grant-none t = let k = neither (M.isHeld (viewSession s .lease (c .place .document))) (eqb (s .number) n) (sym e ∙ t) in rw (k .0, k .1) (both-same (ltb (c .place .document) 64))
+      where
+        both-same : (x : Bool) → viewSlot s ≡ cond x (viewSlot s) (viewSlot s)
+        both-same true = refl
+        both-same false = refl

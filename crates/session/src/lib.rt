@@ -1,12 +1,12 @@
 // A session with a slot: its leases as two sets of documents, the tick of each grant, and its changes.
 ghost use mathlib.Core.Path.{_≡_};
-ghost use mathlib.Core.Bool.{true, not, cond, _&&_};
+ghost use mathlib.Core.Bool.{true, not, cond, _&&_, _||_};
 ghost use Prim.Native.Nat.{_+_};
 ghost use lib.Dec.{eqb, leb, ltb};
 ghost use Rattle.rules.specs.Limits.{documentCount};
 ghost use Rattle.rules.specs.Lists.{any};
 ghost use Rattle.rules.specs.Tables.{isHeld, isExclusive, hasLapsed, documents, doomedSession, remade};
-ghost use Rattle.rules.specs.Effects.{opened, withShared, withExclusive, withLast, grant, onlyAt, lapses, loses};
+ghost use Rattle.rules.specs.Effects.{opened, withShared, withExclusive, withLast, grant, lapses, loses};
 ghost use Rattle.rules.specs.Step.{count, heldShared, heldExclusive};
 ghost use Rattle.docset.specs.Sets.{docs};
 ghost use Rattle.keys.specs.View.{viewKey};
@@ -191,17 +191,6 @@ impl Session {
         s
     }
 
-    // The same for session n; any other stays as it is.
-    pub fn share_own(self, n: u32, key: Key, now: u64) -> Self
-        ensures shows { λ r. ⌜ viewSlot r ≡ remade (onlyAt n (withShared now (within (viewKey key)))) (viewSlot self) ⌝ }
-        ensures form { λ r. ⌜ (sessionForm self ≡ true → sessionForm r ≡ true) ⌝ }
-    {
-        if self.number == n {
-            return self.share(key, now);
-        }
-        self
-    }
-
     // An exclusive lease on a document; one that is held exclusively keeps its grant.
     pub fn with_exclusive(self, d: u8, now: u64) -> Self
         ensures shows { λ r. ⌜ viewSlot r ≡ cond (ltb d documentCount) (remade (λ n. withExclusive now d) (viewSlot self)) (viewSlot self) ⌝ }
@@ -231,6 +220,16 @@ impl Session {
         let mut s = self;
         s.changes = changes;
         s
+    }
+
+    // A change of session n in a document does something to it: it is n, or holds the document.
+    pub fn meets(self, n: u32, d: u8) -> bool
+        ensures { λ r. ⌜ r ≡ eqb (viewSlot self .number) n || isHeld (viewSession self .lease d) ⌝ }
+    {
+        if self.number == n {
+            return true;
+        }
+        self.holds(d)
     }
 
     // What a change of session n does to a session: n gets the lease and the change, another holder is doomed.

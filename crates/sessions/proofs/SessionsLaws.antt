@@ -139,21 +139,18 @@ pub make-start : {F : Type 0} {g : M.Slot → M.Slot} {t : Sessions} → length 
 make-start l f = record { count = refl; slots = remake-start l; form = f }
 
 module _ {F : Type 0} {g : M.Slot → M.Slot} {t r : Sessions} {i : ℕ} (inv : Making F g t r i) where
-  pub make-next : (d s : Session) → i < min (t .count) 8 → viewSlot s ≡ g (viewSlot (getD (r .slots) i d)) → (F → sessionForm (getD (r .slots) i d) ≡ true → sessionForm s ≡ true)
-      → Making F g t (record { count = r .count; slots = set (r .slots) i s }) (i + 1)
+  -- u is what a test left: the slot written, or as it was
+  pub make-new : (d s : Session) (u : Sessions) → i < min (t .count) 8 → viewSlot s ≡ g (viewSlot (getD (r .slots) i d)) → (F → sessionForm (getD (r .slots) i d) ≡ true → sessionForm s ≡ true)
+      → u ≡ record { count = r .count; slots = set (r .slots) i s } → Making F g t u (i + 1)
   unfolding sessionsForm
-  make-next d s h e f =
+  make-new d s u h e f q =
       let m : i < r .count = omega (arith, inv .count) in
-      record {
+      rw q
+      (record {
         count = inv .count;
         slots = remake-here (inv .slots) d (omega arith) e;
         form = λ a. form-set 8 sessionForm isUnused (r .count) (r .slots) i s m (f a (slot-form r i d m (inv .form a))) (inv .form a);
-      }
-
-  -- the same where u is what a test left: the slot written, or as it was
-  pub make-new : (d s : Session) (u : Sessions) → i < min (t .count) 8 → viewSlot s ≡ g (viewSlot (getD (r .slots) i d)) → (F → sessionForm (getD (r .slots) i d) ≡ true → sessionForm s ≡ true)
-      → u ≡ record { count = r .count; slots = set (r .slots) i s } → Making F g t u (i + 1)
-  make-new d s u h e f q = rw q (make-next d s h e f)
+      })
 
   pub make-same : (d : Session) (u : Sessions) → i < min (t .count) 8 → viewSlot (getD (r .slots) i d) ≡ g (viewSlot (getD (r .slots) i d)) → u ≡ r → Making F g t u (i + 1)
   make-same d u h e q =

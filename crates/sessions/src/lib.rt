@@ -192,12 +192,15 @@ impl Sessions {
         ensures shows { λ r. ⌜ viewSessions r ≡ cond (ltb (c .place .document) documentCount) (each (grant now n (viewUpdate c)) (viewSessions self)) (viewSessions self) ⌝ }
         ensures form { λ r. ⌜ (isUsed c ≡ true → sessionsForm self ≡ true → sessionsForm r ≡ true) ⌝ }
     {
+        let place = c.place;
         let end = Self::used(self.count);
         let mut t = self;
         let mut i: usize = 0;
         while i < end {
-            let s = t.slots[i].grant(n, c, now);
-            t.slots[i] = s;
+            if t.slots[i].meets(n, place.document) {
+                let s = t.slots[i].grant(n, c, now);
+                t.slots[i] = s;
+            }
             i += 1;
         }
         t
@@ -212,8 +215,10 @@ impl Sessions {
         let mut t = self;
         let mut i: usize = 0;
         while i < end {
-            let s = t.slots[i].share_own(n, key, now);
-            t.slots[i] = s;
+            if n == t.slots[i].number {
+                let s = t.slots[i].share(key, now);
+                t.slots[i] = s;
+            }
             i += 1;
         }
         t
