@@ -11,7 +11,7 @@ use borrow.Author.Tests.{eq-eqb, ne-eqb, le-leb, lt-leb}
 use Rattle.rules.specs.Limits.{documentCount}
 use Rattle.rules.specs.Lists.{any, pushed}
 use Rattle.rules.specs.Tables as M
-use Rattle.rules.specs.Effects.{opened, firstDoomed, room, grant, loses, isLost}
+use Rattle.rules.specs.Effects.{opened, firstDoomed, room, loses, isLost}
 use Rattle.rules.proofs.Laws.{or-zero}
 use Rattle.lists.specs.Find.{fold}
 use Rattle.lists.specs.Table.{counted}
@@ -24,7 +24,7 @@ use Rattle.docset.proofs.SetLaws.{docs-none}
 use Rattle.changes.specs.declared.Update.{Update}
 use Rattle.changes.specs.View.{viewUpdate}
 use Rattle.session.specs.declared.Session.{Session}
-use Rattle.session.specs.View.{viewSlot}
+use Rattle.session.specs.View.{viewSlot, grantAt}
 use Rattle.session.specs.Form.{sessionForm, isUnused}
 use Rattle.session.proofs.FormLaws.{unused-parts}
 use Rattle.sessions.specs.declared.Sessions.{Sessions}
@@ -167,12 +167,12 @@ each-if true g l = refl
 each-if false g l = map-id l
 
 unfoldable pub granted : ℕ → ℕ → Update → M.Slot → M.Slot
-granted now n c s = cond (ltb (c .place .document) documentCount) (M.remade (grant now n (viewUpdate c)) s) s
+granted now n c s = cond (ltb (c .place .document) documentCount) (M.remade (grantAt now n (viewUpdate c)) s) s
 
 pub granted-all : (now n : ℕ) (c : Update) (t r : Sessions) → viewSessions r ≡ map (granted now n c) (viewSessions t)
-    → viewSessions r ≡ cond (ltb (c .place .document) documentCount) (M.each (grant now n (viewUpdate c)) (viewSessions t)) (viewSessions t)
+    → viewSessions r ≡ cond (ltb (c .place .document) documentCount) (M.each (grantAt now n (viewUpdate c)) (viewSessions t)) (viewSessions t)
 unfolding granted
-granted-all now n c t r e = e ∙ each-if (ltb (c .place .document) documentCount) (M.remade (grant now n (viewUpdate c))) (viewSessions t)
+granted-all now n c t r e = e ∙ each-if (ltb (c .place .document) documentCount) (M.remade (grantAt now n (viewUpdate c))) (viewSessions t)
 
 -- ── the sets of several gathered in one ──
 or-cond : (a x y : Bool) → (a || x) || y ≡ a || cond x true y

@@ -7,16 +7,16 @@ use mathlib.Core.Path.{_≡_}
 use mathlib.Core.Bool.{true}
 use Rattle.sessions.specs.Form.{sessionsForm}
 use Rattle.rules.specs.Tables.{remade}
-use Rattle.rules.specs.Effects.{onlyAt, withShared}
+use Rattle.rules.specs.Effects.{onlyAt}
 use Rattle.keys.specs.View.{viewKey}
-use Rattle.session.specs.View.{within}
+use Rattle.session.specs.View.{within, withSharedAt}
 use Rattle.session.proofs.SessionLaws.{own-is, own-other}
 use Rattle.sessions.proofs.SessionsLaws.{Making, make-start, make-new, make-same, make-end}
 use Rattle.sessions.proofs.Sessions.shared.Statement.{statement}
 use Rattle.sessions.proofs.Sessions.shared.Tie as tie
 
 abbrev Inv-loop : tie.InvT-loop
-Inv-loop n key now end t₀ i₀ t i = Making (sessionsForm t₀ ≡ true) (remade (onlyAt n (withShared now (within (viewKey key))))) t₀ t i
+Inv-loop n key now end t₀ i₀ t i = Making (sessionsForm t₀ ≡ true) (remade (onlyAt n (withSharedAt now (within (viewKey key))))) t₀ t i
 
 abbrev μ-loop : tie.MeasureT-loop
 μ-loop n key now end t₀ i₀ t i = end - i
