@@ -63,15 +63,22 @@ pub fn lowest(set: u64) -> u8
     u64::trailing_zeros(set) as u8
 }
 
+// Is a tick at most limit?
+fn at_most(tick: u16, limit: u64) -> bool
+    ensures { λ r. ⌜ r ≡ leb tick limit ⌝ }
+{
+    tick as u64 <= limit
+}
+
 // Has a document of the set a tick of at most limit?
-pub fn any_over(set: u64, ticks: [u64; DOCUMENTS as usize], limit: u64) -> bool
+pub fn any_over(set: u64, ticks: [u16; DOCUMENTS as usize], limit: u64) -> bool
     ensures { λ r. ⌜ r ≡ any (λ d. docs set d && leb (getD ticks d 0) limit) documents ⌝ }
 {
     let mut rest = set;
     while rest != 0 {
         let d = lowest(rest);
         let i = d as usize;
-        if ticks[i] <= limit {
+        if at_most(ticks[i], limit) {
             return true;
         }
         rest = without(rest, d);

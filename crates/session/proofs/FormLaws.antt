@@ -146,7 +146,7 @@ module _ (s : Session) (d now : ℕ) where
   unfolding sessionForm viewSession
   share-form sh e t h l p f =
       let k = session-parts s f in
-      let o = not-held (docs (s .shared)) (docs (s .exclusive)) (ticks (s .granted)) d (sym e ∙ t) in
+      let o = not-held (docs (s .shared)) (docs (s .exclusive)) (ticks (s .begun) (s .granted)) d (sym e ∙ t) in
       both (leasesForm sh (s .exclusive) (set (s .granted) d now)) (changesForm (s .changes)) (leases-share (s .shared) (s .exclusive) (s .granted) d now h (k .0) sh (o .0) l p) (k .1)
 
 pub last-form : (s : Session) (cs : Changes) → (changesForm (s .changes) ≡ true → changesForm cs ≡ true) → sessionForm s ≡ true

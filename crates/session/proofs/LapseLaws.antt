@@ -2,11 +2,11 @@
 use Prim.Native.Nat.{ℕ, _+_, _-_, _<_, _≤_}
 use native.Mathlib.Omega.{arith}
 use mathlib.Core.Path.{_≡_, refl, sym, _∙_, ap, fun-ext}
-use mathlib.Core.Bool.{Bool, true, false, cond, _&&_}
+use mathlib.Core.Bool.{Bool, true, false, not, cond, _&&_}
 use mathlib.Core.List.{List, [], _∷_}
 use lib.Dec.{leb}
 use lib.ListN.{getD}
-use borrow.Author.Tests.{le-leb, lt-leb, leb-true, leb-false}
+use borrow.Author.Tests.{le-leb, lt-leb, leb-true, leb-false, not-true, not-false}
 use Rattle.rules.specs.Limits.{leaseTicks, sessionTicks}
 use Rattle.rules.specs.Lists.{any}
 use Rattle.rules.specs.Tables as M
@@ -42,25 +42,48 @@ any-false : (f : ℕ → Bool) → ((d : ℕ) → f d ≡ false) → (l : List �
 any-false f h [] = refl
 any-false f h (d ∷ l) = rw (h d) (any-false f h l)
 
-young : (clock : ℕ) → clock < leaseTicks → (l : M.Lease) → M.hasLapsed clock l ≡ false
-young clock h M.free = refl
-young clock h (M.shared t) = lt-leb (t + leaseTicks) clock (omega arith)
-young clock h (M.exclusive t) = lt-leb (t + leaseTicks) clock (omega arith)
+-- t ticks after the begin b
+module _ (b t clock : ℕ) where
+  young : leb (b + leaseTicks) clock ≡ false → leb (b + t + leaseTicks) clock ≡ false
+  young e = lt-leb (b + t + leaseTicks) clock (omega (arith, leb-false (b + leaseTicks) clock e))
+
+  old : leb (b + leaseTicks) clock ≡ true → leb t (clock - b - leaseTicks) ≡ leb (b + t + leaseTicks) clock
+  old e =
+      let h = leb-true (b + leaseTicks) clock e in
+      byCase (leb t (clock - b - leaseTicks))
+      (λ u. let a = leb-true t (clock - b - leaseTicks) u in u ∙ sym (le-leb (b + t + leaseTicks) clock (omega arith)))
+      (λ u. let a = leb-false t (clock - b - leaseTicks) u in u ∙ sym (lt-leb (b + t + leaseTicks) clock (omega arith)))
+
+and-false : (x : Bool) → x && false ≡ false
+and-false true = refl
+and-false false = refl
 
 module _ (s : Session) (clock : ℕ) where
-  pub lapsed-early : clock < leaseTicks → false ≡ any (λ d. M.hasLapsed clock (viewSession s .lease d)) M.documents
-  lapsed-early h = sym (any-false (λ d. M.hasLapsed clock (viewSession s .lease d)) (λ d. young clock h (viewSession s .lease d)) M.documents)
+  module _ (b : Bool) (k : b ≡ leb (s .begun + leaseTicks) clock) where
+    pub lapsed-early : not b ≡ true → false ≡ any (λ d. M.hasLapsed clock (viewSession s .lease d)) M.documents
+    unfolding viewSession ticks
+    lapsed-early h =
+        sym
+        (any-false (λ d. M.hasLapsed clock (viewSession s .lease d))
+        (λ d.
+        over-is (docs (s .shared)) (docs (s .exclusive)) (ticks (s .begun) (s .granted)) clock d
+        ∙ ap (λ (x : Bool). M.isHeld (viewSession s .lease d) && x) (young (s .begun) (getD (s .granted) d 0) clock (sym k ∙ not-true b h))
+        ∙ and-false (M.isHeld (viewSession s .lease d)))
+        M.documents)
 
-  pub lapsed-late : (u : ℕ) (r : Bool) → leaseTicks ≤ clock → docs u ≡ (λ d. M.isHeld (viewSession s .lease d)) → r ≡ any (λ d. docs u d && leb (getD (s .granted) d 0) (clock - leaseTicks)) M.documents
-      → r ≡ any (λ d. M.hasLapsed clock (viewSession s .lease d)) M.documents
-  unfolding viewSession ticks
-  lapsed-late u r h e q =
-      q
-      ∙ ap (λ (p : ℕ → Bool). any p M.documents)
-      (fun-ext (λ d.
-      ap (λ (x : ℕ → Bool). x d && leb (getD (s .granted) d 0) (clock - leaseTicks)) e
-      ∙ ap (λ (x : Bool). M.isHeld (viewSession s .lease d) && x) (ended-late (getD (s .granted) d 0) leaseTicks clock h)
-      ∙ sym (over-is (docs (s .shared)) (docs (s .exclusive)) (ticks (s .granted)) clock d)))
+    pub lapse-room : not b ≡ false → s .begun + leaseTicks ≤ clock
+    lapse-room h = leb-true (s .begun + leaseTicks) clock (sym k ∙ not-false b h)
+
+    pub lapsed-late : (u : ℕ) (r : Bool) → not b ≡ false → docs u ≡ (λ d. M.isHeld (viewSession s .lease d)) → r ≡ any (λ d. docs u d && leb (getD (s .granted) d 0) (clock - s .begun - leaseTicks)) M.documents
+        → r ≡ any (λ d. M.hasLapsed clock (viewSession s .lease d)) M.documents
+    unfolding viewSession ticks
+    lapsed-late u r h e q =
+        q
+        ∙ ap (λ (p : ℕ → Bool). any p M.documents)
+        (fun-ext (λ d.
+        ap (λ (x : ℕ → Bool). x d && leb (getD (s .granted) d 0) (clock - s .begun - leaseTicks)) e
+        ∙ ap (λ (x : Bool). M.isHeld (viewSession s .lease d) && x) (old (s .begun) (getD (s .granted) d 0) clock (sym k ∙ not-false b h))
+        ∙ sym (over-is (docs (s .shared)) (docs (s .exclusive)) (ticks (s .begun) (s .granted)) clock d)))
 
   -- ── the session ──
   pub lapse-doomed : s .doomed ≡ true → false ≡ lapses clock (viewSession s)

@@ -3,3 +3,4 @@ pub mod SessionLaws
 pub mod LapseLaws
 pub mod FormLaws
 pub mod Unique
+pub mod Granting

@@ -26,16 +26,16 @@ use Rattle.changes.specs.declared.Update.{Update}
 use Rattle.changes.specs.declared.Changes.{Changes}
 use Rattle.changes.specs.View.{viewUpdate, viewChanges}
 use Rattle.session.specs.declared.Session.{Session}
-use Rattle.session.specs.View.{leases, ticks, viewSession, viewSlot, within, withSharedOne}
+use Rattle.session.specs.View.{leases, ticks, viewSession, viewSlot, within, since, withSharedOne, withSharedAt, grantAt}
 
 -- ── leases ──
 pub leases-none : (t : ℕ → ℕ) → leases (docs 0) (docs 0) t ≡ (λ d. M.free)
 unfolding leases
 leases-none t = rw docs-none
 
-ticks-set : (g : List ℕ) (d t : ℕ) → d < length g → ticks (set g d t) ≡ override (ticks g) d t
+ticks-set : (b : ℕ) (g : List ℕ) (d t : ℕ) → d < length g → ticks b (set g d t) ≡ override (ticks b g) d (b + t)
 unfolding ticks
-ticks-set g d t h =
+ticks-set b g d t h =
     fun-ext (λ e. byCase (eqb e d)
     (λ q. rw (q, eqb-true e d q, getD-set-same g d t 0 h))
     (λ q. rw (q, getD-set-other g d e t 0 (eqb-false e d q))))
@@ -98,12 +98,12 @@ module _ (sh ex : ℕ → Bool) (t : ℕ → ℕ) (d now : ℕ) where
 pub bare-shows : (n : ℕ) (g : List ℕ) (cs : Changes) → viewChanges cs ≡ []
     → viewSlot (record { number = n; begun = 0; doomed = true; shared = 0; exclusive = 0; granted = g; changes = cs }) ≡ record { number = n; session = M.doomedSession }
 unfolding viewSlot viewSession
-bare-shows n g cs e = rw (e, leases-none (ticks g))
+bare-shows n g cs e = rw (e, leases-none (ticks 0 g))
 
 pub opened-shows : (n clock : ℕ) (g : List ℕ) (cs : Changes) → viewChanges cs ≡ []
     → viewSlot (record { number = n; begun = clock; doomed = false; shared = 0; exclusive = 0; granted = g; changes = cs }) ≡ opened n clock
 unfolding viewSlot viewSession
-opened-shows n clock g cs e = rw (e, leases-none (ticks g))
+opened-shows n clock g cs e = rw (e, leases-none (ticks clock g))
 
 pub slot-session : (s : Session) → viewSession s ≡ viewSlot s .session
 unfolding viewSlot
@@ -121,7 +121,7 @@ remade-doomed s r e = e
 module _ (s : Session) (d : ℕ) where
   pub holds-exclusive-is : {r : Bool} → r ≡ docs (s .exclusive) d → r ≡ M.isExclusive (viewSession s .lease d)
   unfolding viewSession
-  holds-exclusive-is e = e ∙ exclusive-is (docs (s .shared)) (docs (s .exclusive)) (ticks (s .granted)) d
+  holds-exclusive-is e = e ∙ exclusive-is (docs (s .shared)) (docs (s .exclusive)) (ticks (s .begun) (s .granted)) d
 
   module _ {b : Bool} (e : b ≡ docs (s .exclusive) d) where
     pub holds-exclusively : b ≡ true → true ≡ M.isHeld (viewSession s .lease d)
@@ -132,7 +132,7 @@ module _ (s : Session) (d : ℕ) where
     unfolding viewSession leases
     holds-shared {r} t q = rw (← e, t, ← q) (go r)
       where
-        go : (x : Bool) → x ≡ M.isHeld (cond x (M.shared (ticks (s .granted) d)) M.free)
+        go : (x : Bool) → x ≡ M.isHeld (cond x (M.shared (ticks (s .begun) (s .granted) d)) M.free)
         go true = refl
         go false = refl
 
@@ -145,12 +145,12 @@ module _ (s : Session) (d : ℕ) where
 
 pub union-held : (s : Session) (u : ℕ) → docs u ≡ (λ d. docs (s .shared) d || docs (s .exclusive) d) → docs u ≡ (λ d. M.isHeld (viewSession s .lease d))
 unfolding viewSession
-union-held s u e = e ∙ fun-ext (λ d. held-is (docs (s .shared)) (docs (s .exclusive)) (ticks (s .granted)) d)
+union-held s u e = e ∙ fun-ext (λ d. held-is (docs (s .shared)) (docs (s .exclusive)) (ticks (s .begun) (s .granted)) d)
 
 -- ── how much it holds ──
 pub exclusive-count : (s : Session) (r : ℕ) → r ≡ count (docs (s .exclusive)) M.documents → r ≡ count (heldExclusive (viewSession s)) M.documents
 unfolding viewSession
-exclusive-count s r e = e ∙ ap (λ f. count f M.documents) (fun-ext (λ d. exclusive-is (docs (s .shared)) (docs (s .exclusive)) (ticks (s .granted)) d))
+exclusive-count s r e = e ∙ ap (λ f. count f M.documents) (fun-ext (λ d. exclusive-is (docs (s .shared)) (docs (s .exclusive)) (ticks (s .begun) (s .granted)) d))
 
 -- the elements that pass a test, split by a stronger one
 split : (f g : ℕ → Bool) → ((d : ℕ) → f d ≡ false → g d ≡ false) → (l : List ℕ) → count f l ≡ count (λ d. f d && not (g d)) l + count g l
@@ -176,32 +176,32 @@ module _ (s : Session) (u a x : ℕ) (e : docs u ≡ (λ d. M.isHeld (viewSessio
   pub shared-count : a - x ≡ count (heldShared (viewSession s)) M.documents
   shared-count = omega (arith, parted)
 
--- ── a shared lease ──
-module _ (s : Session) (d now : ℕ) where
-  pub share-past : documentCount ≤ d → viewSlot s ≡ M.remade (λ n. withSharedOne now d) (viewSlot s)
+-- ── a shared lease, t ticks after the begin ──
+module _ (s : Session) (d t : ℕ) where
+  pub share-past : documentCount ≤ d → viewSlot s ≡ M.remade (λ n x. withSharedOne (x .begun + t) d x) (viewSlot s)
   unfolding viewSlot withSharedOne
   share-past h = rw (le-ltb d 64 h)
 
   module _ {b : Bool} (h : d < documentCount) (e : b ≡ M.isHeld (viewSession s .lease d)) where
-    pub share-held : b ≡ true → viewSlot s ≡ M.remade (λ n. withSharedOne now d) (viewSlot s)
+    pub share-held : b ≡ true → viewSlot s ≡ M.remade (λ n x. withSharedOne (x .begun + t) d x) (viewSlot s)
     unfolding viewSlot viewSession withSharedOne
-    share-held t = rw (lt-ltb d 64 h, ← shared-held (docs (s .shared)) (docs (s .exclusive)) (ticks (s .granted)) d now (sym e ∙ t)) refl
+    share-held u = rw (lt-ltb d 64 h, ← shared-held (docs (s .shared)) (docs (s .exclusive)) (ticks (s .begun) (s .granted)) d (s .begun + t) (sym e ∙ u)) refl
 
     pub share-new : (sh : ℕ) → b ≡ false → length (s .granted) ≡ documentCount → docs sh ≡ override (docs (s .shared)) d (ltb d documentCount)
-        → viewSlot (record { number = s .number; begun = s .begun; doomed = s .doomed; shared = sh; exclusive = s .exclusive; granted = set (s .granted) d now; changes = s .changes })
-        ≡ M.remade (λ n. withSharedOne now d) (viewSlot s)
+        → viewSlot (record { number = s .number; begun = s .begun; doomed = s .doomed; shared = sh; exclusive = s .exclusive; granted = set (s .granted) d t; changes = s .changes })
+        ≡ M.remade (λ n x. withSharedOne (x .begun + t) d x) (viewSlot s)
     unfolding viewSlot viewSession withSharedOne
-    share-new sh t l p =
+    share-new sh u l p =
         let k : d < length (s .granted) = omega arith in
-        rw (p, ticks-set (s .granted) d now k, lt-ltb d 64 h, ← shared-new (docs (s .shared)) (docs (s .exclusive)) (ticks (s .granted)) d now (sym e ∙ t)) refl
+        rw (p, ticks-set (s .begun) (s .granted) d t k, lt-ltb d 64 h, ← shared-new (docs (s .shared)) (docs (s .exclusive)) (ticks (s .begun) (s .granted)) d (s .begun + t) (sym e ∙ u)) refl
 
 -- ── shared leases on the documents of places, one after the other ──
 unfoldable pub sharing : ℕ → M.Slot → S.Place → M.Slot
-sharing now s q = M.remade (λ n. withSharedOne now (q .document)) s
+sharing t s q = M.remade (λ n x. withSharedOne (x .begun + t) (q .document) x) s
 
-pub share-step : (now : ℕ) (s r : Session) (q : Place) → viewSlot r ≡ M.remade (λ n. withSharedOne now (q .document)) (viewSlot s) → viewSlot r ≡ sharing now (viewSlot s) (viewPlace q)
+pub share-step : (t : ℕ) (s r : Session) (q : Place) → viewSlot r ≡ M.remade (λ n x. withSharedOne (x .begun + t) (q .document) x) (viewSlot s) → viewSlot r ≡ sharing t (viewSlot s) (viewPlace q)
 unfolding sharing viewPlace
-share-step now s r q e = e
+share-step t s r q e = e
 
 twice-shared : (now : ℕ) (b c : Bool) (l : M.Lease) → cond c (orShared now (cond b (orShared now l) l)) (cond b (orShared now l) l) ≡ cond (cond b true c) (orShared now l) l
 twice-shared now true true M.free = refl
@@ -211,17 +211,18 @@ twice-shared now true false l = refl
 twice-shared now false true l = refl
 twice-shared now false false l = refl
 
-share-all : (now : ℕ) (qs : List S.Place) (s : M.Slot) → fold (sharing now) s qs ≡ M.remade (λ n. withShared now (within qs)) s
+share-all : (t : ℕ) (qs : List S.Place) (s : M.Slot) → fold (sharing t) s qs ≡ M.remade (λ n x. withShared (x .begun + t) (within qs) x) s
 unfolding fold sharing withSharedOne within
-share-all now [] s = refl
-share-all now (q ∷ qs) s =
-    share-all now qs (sharing now s q)
+share-all t [] s = refl
+share-all t (q ∷ qs) s =
+    share-all t qs (sharing t s q)
     ∙ byCase (ltb (q .document) 64)
-    (λ t. rw t (ap (λ (f : ℕ → M.Lease). record { number = s .number; session = M.withLeases f (s .session) }) (fun-ext (λ d. twice-shared now (eqb d (q .document)) (documentIn d (within qs)) (s .session .lease d)))))
-    (λ t. rw t)
+    (λ u. rw u (ap (λ (f : ℕ → M.Lease). record { number = s .number; session = M.withLeases f (s .session) }) (fun-ext (λ d. twice-shared (s .session .begun + t) (eqb d (q .document)) (documentIn d (within qs)) (s .session .lease d)))))
+    (λ u. rw u)
 
-pub share-key : (s r : Session) (now : ℕ) (key : Key) → viewSlot r ≡ fold (sharing now) (viewSlot s) (viewKey key) → viewSlot r ≡ M.remade (λ n. withShared now (within (viewKey key))) (viewSlot s)
-share-key s r now key e = e ∙ share-all now (viewKey key) (viewSlot s)
+pub share-key : (s r : Session) (now t : ℕ) (key : Key) → t ≡ since (s .begun) now → viewSlot r ≡ fold (sharing t) (viewSlot s) (viewKey key) → viewSlot r ≡ M.remade (λ n. withSharedAt now (within (viewKey key))) (viewSlot s)
+unfolding withSharedAt viewSlot viewSession
+share-key s r now t key h e = e ∙ share-all t (viewKey key) (viewSlot s) ∙ rw h
 
 -- places in range are all of them within
 pub within-all : (qs : List S.Place) → all S.inRange qs ≡ true → within qs ≡ qs
@@ -230,18 +231,18 @@ within-all [] h = refl
 within-all (q ∷ qs) h = rw (and-true (ltb (q .document) 64) (ltb (q .field) 4) (all-head S.inRange q qs h) .0, within-all qs (all-tail S.inRange q qs h))
 
 module _ (s : Session) (n : ℕ) (f : M.Session → M.Session) where
-  pub own-is : (r : Session) → s .number ≡ n → viewSlot r ≡ M.remade (λ m. f) (viewSlot s) → viewSlot r ≡ M.remade (onlyAt n f) (viewSlot s)
+  pub own-is : (r : Session) → n ≡ s .number → viewSlot r ≡ M.remade (λ m. f) (viewSlot s) → viewSlot r ≡ M.remade (onlyAt n f) (viewSlot s)
   unfolding onlyAt viewSlot
-  own-is r h e = e ∙ rw (eq-eqb (s .number) n h)
+  own-is r h e = e ∙ rw (eq-eqb (s .number) n (sym h))
 
-  pub own-other : (s .number ≡ n → ⊥) → viewSlot s ≡ M.remade (onlyAt n f) (viewSlot s)
+  pub own-other : (n ≡ s .number → ⊥) → viewSlot s ≡ M.remade (onlyAt n f) (viewSlot s)
   unfolding onlyAt viewSlot
-  own-other h = rw (ne-eqb (s .number) n h)
+  own-other h = rw (ne-eqb (s .number) n (λ e. h (sym e)))
 
--- ── an exclusive lease, if there is such a document ──
-module _ (s : Session) (d now : ℕ) where
+-- ── an exclusive lease, t ticks after the begin, if there is such a document ──
+module _ (s : Session) (d t : ℕ) where
   abbrev Excluded : Session → Type 0
-  Excluded r = viewSlot r ≡ cond (ltb d documentCount) (M.remade (λ n. withExclusive now d) (viewSlot s)) (viewSlot s)
+  Excluded r = viewSlot r ≡ cond (ltb d documentCount) (M.remade (λ n x. withExclusive (x .begun + t) d x) (viewSlot s)) (viewSlot s)
 
   pub exclude-past : documentCount ≤ d → Excluded s
   exclude-past h = rw (le-ltb d 64 h)
@@ -249,14 +250,14 @@ module _ (s : Session) (d now : ℕ) where
   module _ {b : Bool} (h : d < documentCount) (e : b ≡ docs (s .exclusive) d) where
     pub exclude-held : b ≡ true → Excluded s
     unfolding viewSlot viewSession withExclusive
-    exclude-held t = rw (lt-ltb d 64 h, ← exclusive-held (docs (s .shared)) (docs (s .exclusive)) (ticks (s .granted)) d now (sym e ∙ t)) refl
+    exclude-held u = rw (lt-ltb d 64 h, ← exclusive-held (docs (s .shared)) (docs (s .exclusive)) (ticks (s .begun) (s .granted)) d (s .begun + t) (sym e ∙ u)) refl
 
     pub exclude-new : (sh ex : ℕ) → b ≡ false → length (s .granted) ≡ documentCount → docs sh ≡ override (docs (s .shared)) d false → docs ex ≡ override (docs (s .exclusive)) d (ltb d documentCount)
-        → Excluded (record { number = s .number; begun = s .begun; doomed = s .doomed; shared = sh; exclusive = ex; granted = set (s .granted) d now; changes = s .changes })
+        → Excluded (record { number = s .number; begun = s .begun; doomed = s .doomed; shared = sh; exclusive = ex; granted = set (s .granted) d t; changes = s .changes })
     unfolding viewSlot viewSession withExclusive
-    exclude-new sh ex t l p q =
+    exclude-new sh ex u l p q =
         let k : d < length (s .granted) = omega arith in
-        rw (p, q, lt-ltb d 64 h, ticks-set (s .granted) d now k, ← exclusive-new (docs (s .shared)) (docs (s .exclusive)) (ticks (s .granted)) d now (sym e ∙ t)) refl
+        rw (p, q, lt-ltb d 64 h, ticks-set (s .begun) (s .granted) d t k, ← exclusive-new (docs (s .shared)) (docs (s .exclusive)) (ticks (s .begun) (s .granted)) d (s .begun + t) (sym e ∙ u)) refl
 
 -- ── a change last ──
 pub last-shows : (s : Session) (c : Update) (cs : Changes) → viewChanges cs ≡ pushed 8 (viewChanges (s .changes)) (viewUpdate c)
@@ -265,24 +266,44 @@ pub last-shows : (s : Session) (c : Update) (cs : Changes) → viewChanges cs �
 unfolding viewSlot viewSession withLast
 last-shows s c cs e = rw e
 
+-- ── whom a change meets ──
+module _ (s : Session) (n d : ℕ) where
+  pub meets-own : s .number ≡ n → true ≡ eqb (viewSlot s .number) n || M.isHeld (viewSession s .lease d)
+  unfolding viewSlot
+  meets-own h = rw (eq-eqb (s .number) n h)
+
+  pub meets-other : {r : Bool} → (s .number ≡ n → ⊥) → r ≡ M.isHeld (viewSession s .lease d) → r ≡ eqb (viewSlot s .number) n || M.isHeld (viewSession s .lease d)
+  unfolding viewSlot
+  meets-other h e = e ∙ rw (ne-eqb (s .number) n h)
+
 -- ── the effect of a change on one session, if there is such a document ──
 module _ (s : Session) (n now : ℕ) (c : Update) where
   abbrev Granted : Session → Type 0
-  Granted r = viewSlot r ≡ cond (ltb (c .place .document) documentCount) (M.remade (grant now n (viewUpdate c)) (viewSlot s)) (viewSlot s)
+  Granted r = viewSlot r ≡ cond (ltb (c .place .document) documentCount) (M.remade (grantAt now n (viewUpdate c)) (viewSlot s)) (viewSlot s)
 
   pub grant-past : documentCount ≤ c .place .document → Granted s
   grant-past h = rw (le-ltb (c .place .document) 64 h)
 
   module _ (l : c .place .document < documentCount) where
-    pub grant-own : (x r : Session) → s .number ≡ n → Excluded s (c .place .document) now x → viewSlot r ≡ M.remade (λ n. withLast (viewUpdate c)) (viewSlot x) → Granted r
-    unfolding grant viewSlot viewUpdate viewPlace
-    grant-own x r h e f = f ∙ ap (M.remade (λ n. withLast (viewUpdate c))) e ∙ rw (lt-ltb (c .place .document) 64 l, eq-eqb (s .number) n h)
+    pub grant-own : (x r : Session) (t : ℕ) → s .number ≡ n → t ≡ since (s .begun) now → Excluded s (c .place .document) t x → viewSlot r ≡ M.remade (λ n. withLast (viewUpdate c)) (viewSlot x) → Granted r
+    unfolding grantAt grant viewSlot viewSession viewUpdate viewPlace
+    grant-own x r t h q e f = f ∙ ap (M.remade (λ n. withLast (viewUpdate c))) e ∙ rw (lt-ltb (c .place .document) 64 l, eq-eqb (s .number) n h, q)
 
     module _ (h : s .number ≡ n → ⊥) {b : Bool} (e : b ≡ M.isHeld (viewSession s .lease (c .place .document))) where
       pub grant-holder : (r : Session) → b ≡ true → viewSlot r ≡ M.remade (λ n t. M.doomedSession) (viewSlot s) → Granted r
-      unfolding grant viewSlot viewUpdate viewPlace
+      unfolding grantAt grant viewSlot viewUpdate viewPlace
       grant-holder r t f = f ∙ rw (lt-ltb (c .place .document) 64 l, ne-eqb (s .number) n h, ← e, t)
 
       pub grant-other : b ≡ false → Granted s
-      unfolding grant viewSlot viewUpdate viewPlace
+      unfolding grantAt grant viewSlot viewUpdate viewPlace
       grant-other t = rw (lt-ltb (c .place .document) 64 l, ne-eqb (s .number) n h, ← e, t)
+
+  -- what it does nothing to
+  module _ {b : Bool} (e : b ≡ eqb (viewSlot s .number) n || M.isHeld (viewSession s .lease (c .place .document))) where
+    pub grant-none : b ≡ false → Granted s
+    unfolding grantAt grant viewSlot viewUpdate viewPlace
+    grant-none t = let k = neither (M.isHeld (viewSession s .lease (c .place .document))) (eqb (s .number) n) (sym e ∙ t) in rw (k .0, k .1) (both-same (ltb (c .place .document) 64))
+      where
+        both-same : (x : Bool) → viewSlot s ≡ cond x (viewSlot s) (viewSlot s)
+        both-same true = refl
+        both-same false = refl

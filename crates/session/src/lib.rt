@@ -1,18 +1,18 @@
-// A session with a slot: its leases as two sets of documents, the tick of each grant, and its changes.
+// A session with a slot: its leases as two sets of documents, the tick of each grant since its begin, and its changes.
 ghost use mathlib.Core.Path.{_≡_};
-ghost use mathlib.Core.Bool.{true, not, cond, _&&_};
+ghost use mathlib.Core.Bool.{true, not, cond, _&&_, _||_};
 ghost use Prim.Native.Nat.{_+_};
 ghost use lib.Dec.{eqb, leb, ltb};
 ghost use Rattle.rules.specs.Limits.{documentCount};
 ghost use Rattle.rules.specs.Lists.{any};
 ghost use Rattle.rules.specs.Tables.{isHeld, isExclusive, hasLapsed, documents, doomedSession, remade};
-ghost use Rattle.rules.specs.Effects.{opened, withShared, withExclusive, withLast, grant, onlyAt, lapses, loses};
+ghost use Rattle.rules.specs.Effects.{opened, withExclusive, withLast, lapses, loses};
 ghost use Rattle.rules.specs.Step.{count, heldShared, heldExclusive};
 ghost use Rattle.docset.specs.Sets.{docs};
 ghost use Rattle.keys.specs.View.{viewKey};
 ghost use Rattle.changes.specs.View.{viewUpdate};
 ghost use Rattle.changes.specs.Form.{isUsed};
-ghost use Rattle.session.specs.View.{viewSession, viewSlot, within, withSharedOne};
+ghost use Rattle.session.specs.View.{viewSession, viewSlot, within, since, withSharedOne, withSharedAt, grantAt};
 ghost use Rattle.session.specs.Form.{sessionForm, isBare, isUnused};
 use changes::Changes;
 use changes::Update;
@@ -28,13 +28,27 @@ fn ended(t: u64, k: u64, clock: u64) -> bool
     t <= clock - k
 }
 
+// How many ticks after the begin a grant at now comes, as many as 16 bits hold.
+fn since(begun: u64, now: u64) -> u16
+    ensures { λ r. ⌜ r ≡ since begun now ⌝ }
+{
+    if now <= begun {
+        return 0;
+    }
+    let ticks = now - begun;
+    if 65535 <= ticks {
+        return 65535;
+    }
+    ticks as u16
+}
+
 pub struct Session {
     pub number: u32,
     pub begun: u64,
     pub doomed: bool,
     pub shared: u64,
     pub exclusive: u64,
-    pub granted: [u64; Session::DOCUMENTS],
+    pub granted: [u16; Session::DOCUMENTS],
     pub changes: Changes,
 }
 
@@ -154,9 +168,9 @@ impl Session {
         all - exclusive
     }
 
-    // A shared lease on a document, unless it is held.
-    pub fn with_shared(self, d: u8, now: u64) -> Self
-        ensures shows { λ r. ⌜ viewSlot r ≡ remade (λ n. withSharedOne now d) (viewSlot self) ⌝ }
+    // A shared lease on a document, unless it is held, granted some ticks after the begin.
+    fn with_shared(self, d: u8, ticks: u16) -> Self
+        ensures shows { λ r. ⌜ viewSlot r ≡ remade (λ n s. withSharedOne (s .begun + ticks) d s) (viewSlot self) ⌝ }
         ensures form { λ r. ⌜ (sessionForm self ≡ true → sessionForm r ≡ true) ⌝ }
     {
         let at = d as usize;
@@ -168,16 +182,17 @@ impl Session {
         }
         let mut s = self;
         s.shared = docset::with(self.shared, d);
-        s.granted[at] = now;
+        s.granted[at] = ticks;
         s
     }
 
     // Shared leases on the documents of a key.
     pub fn share(self, key: Key, now: u64) -> Self
-        ensures shows { λ r. ⌜ viewSlot r ≡ remade (λ n. withShared now (within (viewKey key))) (viewSlot self) ⌝ }
+        ensures shows { λ r. ⌜ viewSlot r ≡ remade (λ n. withSharedAt now (within (viewKey key))) (viewSlot self) ⌝ }
         ensures form { λ r. ⌜ (sessionForm self ≡ true → sessionForm r ≡ true) ⌝ }
     {
         let count = key.count as usize;
+        let ticks = since(self.begun, now);
         let mut s = self;
         let mut i: usize = 0;
         while i < Key::LIMIT {
@@ -185,26 +200,15 @@ impl Session {
                 return s;
             }
             let q = key.places[i];
-            s = s.with_shared(q.document, now);
+            s = s.with_shared(q.document, ticks);
             i += 1;
         }
         s
     }
 
-    // The same for session n; any other stays as it is.
-    pub fn share_own(self, n: u32, key: Key, now: u64) -> Self
-        ensures shows { λ r. ⌜ viewSlot r ≡ remade (onlyAt n (withShared now (within (viewKey key)))) (viewSlot self) ⌝ }
-        ensures form { λ r. ⌜ (sessionForm self ≡ true → sessionForm r ≡ true) ⌝ }
-    {
-        if self.number == n {
-            return self.share(key, now);
-        }
-        self
-    }
-
     // An exclusive lease on a document; one that is held exclusively keeps its grant.
-    pub fn with_exclusive(self, d: u8, now: u64) -> Self
-        ensures shows { λ r. ⌜ viewSlot r ≡ cond (ltb d documentCount) (remade (λ n. withExclusive now d) (viewSlot self)) (viewSlot self) ⌝ }
+    fn with_exclusive(self, d: u8, ticks: u16) -> Self
+        ensures shows { λ r. ⌜ viewSlot r ≡ cond (ltb d documentCount) (remade (λ n s. withExclusive (s .begun + ticks) d s) (viewSlot self)) (viewSlot self) ⌝ }
         ensures form { λ r. ⌜ (sessionForm self ≡ true → sessionForm r ≡ true) ⌝ }
     {
         let at = d as usize;
@@ -217,7 +221,7 @@ impl Session {
         let mut s = self;
         s.shared = docset::without(self.shared, d);
         s.exclusive = docset::with(self.exclusive, d);
-        s.granted[at] = now;
+        s.granted[at] = ticks;
         s
     }
 
@@ -233,9 +237,19 @@ impl Session {
         s
     }
 
+    // A change of session n in a document does something to it: it is n, or holds the document.
+    pub fn meets(self, n: u32, d: u8) -> bool
+        ensures { λ r. ⌜ r ≡ eqb (viewSlot self .number) n || isHeld (viewSession self .lease d) ⌝ }
+    {
+        if self.number == n {
+            return true;
+        }
+        self.holds(d)
+    }
+
     // What a change of session n does to a session: n gets the lease and the change, another holder is doomed.
     pub fn grant(self, n: u32, c: Update, now: u64) -> Self
-        ensures shows { λ r. ⌜ viewSlot r ≡ cond (ltb (c .place .document) documentCount) (remade (grant now n (viewUpdate c)) (viewSlot self)) (viewSlot self) ⌝ }
+        ensures shows { λ r. ⌜ viewSlot r ≡ cond (ltb (c .place .document) documentCount) (remade (grantAt now n (viewUpdate c)) (viewSlot self)) (viewSlot self) ⌝ }
         ensures form { λ r. ⌜ (isUsed c ≡ true → sessionForm self ≡ true → sessionForm r ≡ true) ⌝ }
     {
         let place = c.place;
@@ -244,7 +258,8 @@ impl Session {
             return self;
         }
         if self.number == n {
-            let s = self.with_exclusive(d, now);
+            let ticks = since(self.begun, now);
+            let s = self.with_exclusive(d, ticks);
             return s.with_last(c);
         }
         if self.holds(d) {
@@ -257,12 +272,12 @@ impl Session {
     fn any_lapsed(self, clock: u64) -> bool
         ensures { λ r. ⌜ r ≡ any (λ d. hasLapsed clock (viewSession self .lease d)) documents ⌝ }
     {
-        if clock < Self::LEASE_TICKS {
+        if !ended(self.begun, Self::LEASE_TICKS, clock) {
             return false;
         }
         let held = self.held();
         let granted = self.granted;
-        docset::any_over(held, granted, clock - Self::LEASE_TICKS)
+        docset::any_over(held, granted, clock - self.begun - Self::LEASE_TICKS)
     }
 
     // A lease of it lapses, or its own life.

@@ -11,7 +11,7 @@ use borrow.Author.Tests.{eq-eqb, ne-eqb, le-leb, lt-leb}
 use Rattle.rules.specs.Limits.{documentCount}
 use Rattle.rules.specs.Lists.{any, pushed}
 use Rattle.rules.specs.Tables as M
-use Rattle.rules.specs.Effects.{opened, firstDoomed, room, grant, loses, isLost}
+use Rattle.rules.specs.Effects.{opened, firstDoomed, room, loses, isLost}
 use Rattle.rules.proofs.Laws.{or-zero}
 use Rattle.lists.specs.Find.{fold}
 use Rattle.lists.specs.Table.{counted}
@@ -24,7 +24,7 @@ use Rattle.docset.proofs.SetLaws.{docs-none}
 use Rattle.changes.specs.declared.Update.{Update}
 use Rattle.changes.specs.View.{viewUpdate}
 use Rattle.session.specs.declared.Session.{Session}
-use Rattle.session.specs.View.{viewSlot}
+use Rattle.session.specs.View.{viewSlot, grantAt}
 use Rattle.session.specs.Form.{sessionForm, isUnused}
 use Rattle.session.proofs.FormLaws.{unused-parts}
 use Rattle.sessions.specs.declared.Sessions.{Sessions}
@@ -139,21 +139,18 @@ pub make-start : {F : Type 0} {g : M.Slot → M.Slot} {t : Sessions} → length 
 make-start l f = record { count = refl; slots = remake-start l; form = f }
 
 module _ {F : Type 0} {g : M.Slot → M.Slot} {t r : Sessions} {i : ℕ} (inv : Making F g t r i) where
-  pub make-next : (d s : Session) → i < min (t .count) 8 → viewSlot s ≡ g (viewSlot (getD (r .slots) i d)) → (F → sessionForm (getD (r .slots) i d) ≡ true → sessionForm s ≡ true)
-      → Making F g t (record { count = r .count; slots = set (r .slots) i s }) (i + 1)
+  -- u is what a test left: the slot written, or as it was
+  pub make-new : (d s : Session) (u : Sessions) → i < min (t .count) 8 → viewSlot s ≡ g (viewSlot (getD (r .slots) i d)) → (F → sessionForm (getD (r .slots) i d) ≡ true → sessionForm s ≡ true)
+      → u ≡ record { count = r .count; slots = set (r .slots) i s } → Making F g t u (i + 1)
   unfolding sessionsForm
-  make-next d s h e f =
+  make-new d s u h e f q =
       let m : i < r .count = omega (arith, inv .count) in
-      record {
+      rw q
+      (record {
         count = inv .count;
         slots = remake-here (inv .slots) d (omega arith) e;
         form = λ a. form-set 8 sessionForm isUnused (r .count) (r .slots) i s m (f a (slot-form r i d m (inv .form a))) (inv .form a);
-      }
-
-  -- the same where u is what a test left: the slot written, or as it was
-  pub make-new : (d s : Session) (u : Sessions) → i < min (t .count) 8 → viewSlot s ≡ g (viewSlot (getD (r .slots) i d)) → (F → sessionForm (getD (r .slots) i d) ≡ true → sessionForm s ≡ true)
-      → u ≡ record { count = r .count; slots = set (r .slots) i s } → Making F g t u (i + 1)
-  make-new d s u h e f q = rw q (make-next d s h e f)
+      })
 
   pub make-same : (d : Session) (u : Sessions) → i < min (t .count) 8 → viewSlot (getD (r .slots) i d) ≡ g (viewSlot (getD (r .slots) i d)) → u ≡ r → Making F g t u (i + 1)
   make-same d u h e q =
@@ -170,12 +167,12 @@ each-if true g l = refl
 each-if false g l = map-id l
 
 unfoldable pub granted : ℕ → ℕ → Update → M.Slot → M.Slot
-granted now n c s = cond (ltb (c .place .document) documentCount) (M.remade (grant now n (viewUpdate c)) s) s
+granted now n c s = cond (ltb (c .place .document) documentCount) (M.remade (grantAt now n (viewUpdate c)) s) s
 
 pub granted-all : (now n : ℕ) (c : Update) (t r : Sessions) → viewSessions r ≡ map (granted now n c) (viewSessions t)
-    → viewSessions r ≡ cond (ltb (c .place .document) documentCount) (M.each (grant now n (viewUpdate c)) (viewSessions t)) (viewSessions t)
+    → viewSessions r ≡ cond (ltb (c .place .document) documentCount) (M.each (grantAt now n (viewUpdate c)) (viewSessions t)) (viewSessions t)
 unfolding granted
-granted-all now n c t r e = e ∙ each-if (ltb (c .place .document) documentCount) (M.remade (grant now n (viewUpdate c))) (viewSessions t)
+granted-all now n c t r e = e ∙ each-if (ltb (c .place .document) documentCount) (M.remade (grantAt now n (viewUpdate c))) (viewSessions t)
 
 -- ── the sets of several gathered in one ──
 or-cond : (a x y : Bool) → (a || x) || y ≡ a || cond x true y

@@ -8,12 +8,12 @@ ghost use lib.ListN.{length};
 ghost use Rattle.rules.specs.Limits.{documentCount, slotLimit};
 ghost use Rattle.rules.specs.Lists.{any, pushed};
 ghost use Rattle.rules.specs.Tables.{hasSlot, session, each, freed, othersExclusive};
-ghost use Rattle.rules.specs.Effects.{opened, firstDoomed, room, withShared, grant, onlyAt, lapse, isLost};
+ghost use Rattle.rules.specs.Effects.{opened, firstDoomed, room, onlyAt, lapse, isLost};
 ghost use Rattle.docset.specs.Sets.{docs};
 ghost use Rattle.keys.specs.View.{viewKey};
 ghost use Rattle.changes.specs.View.{viewUpdate};
 ghost use Rattle.changes.specs.Form.{isUsed};
-ghost use Rattle.session.specs.View.{viewSession, viewSlot, within};
+ghost use Rattle.session.specs.View.{viewSession, viewSlot, within, withSharedAt, grantAt};
 ghost use Rattle.session.specs.Form.{sessionForm};
 ghost use Rattle.sessions.specs.View.{viewSessions};
 ghost use Rattle.sessions.specs.Form.{sessionsForm};
@@ -189,15 +189,18 @@ impl Sessions {
 
     // After a change of session n: it has the lease and the change, and the other holders are doomed.
     pub fn changed(self, n: u32, c: Update, now: u64) -> Self
-        ensures shows { λ r. ⌜ viewSessions r ≡ cond (ltb (c .place .document) documentCount) (each (grant now n (viewUpdate c)) (viewSessions self)) (viewSessions self) ⌝ }
+        ensures shows { λ r. ⌜ viewSessions r ≡ cond (ltb (c .place .document) documentCount) (each (grantAt now n (viewUpdate c)) (viewSessions self)) (viewSessions self) ⌝ }
         ensures form { λ r. ⌜ (isUsed c ≡ true → sessionsForm self ≡ true → sessionsForm r ≡ true) ⌝ }
     {
+        let place = c.place;
         let end = Self::used(self.count);
         let mut t = self;
         let mut i: usize = 0;
         while i < end {
-            let s = t.slots[i].grant(n, c, now);
-            t.slots[i] = s;
+            if t.slots[i].meets(n, place.document) {
+                let s = t.slots[i].grant(n, c, now);
+                t.slots[i] = s;
+            }
             i += 1;
         }
         t
@@ -205,15 +208,17 @@ impl Sessions {
 
     // After a read of session n: it has shared leases on the documents of the key.
     pub fn shared(self, n: u32, key: Key, now: u64) -> Self
-        ensures shows { λ r. ⌜ viewSessions r ≡ each (onlyAt n (withShared now (within (viewKey key)))) (viewSessions self) ⌝ }
+        ensures shows { λ r. ⌜ viewSessions r ≡ each (onlyAt n (withSharedAt now (within (viewKey key)))) (viewSessions self) ⌝ }
         ensures form { λ r. ⌜ (sessionsForm self ≡ true → sessionsForm r ≡ true) ⌝ }
     {
         let end = Self::used(self.count);
         let mut t = self;
         let mut i: usize = 0;
         while i < end {
-            let s = t.slots[i].share_own(n, key, now);
-            t.slots[i] = s;
+            if n == t.slots[i].number {
+                let s = t.slots[i].share(key, now);
+                t.slots[i] = s;
+            }
             i += 1;
         }
         t

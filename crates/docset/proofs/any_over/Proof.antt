@@ -3,7 +3,6 @@ use mathlib.Core.Bool.{_&&_}
 use lib.ListN.{getD}
 use lib.Dec.{leb}
 use borrow.Author.Needs.{needs}
-use borrow.Author.Tests.{le-leb, lt-leb}
 use Rattle.rules.specs.Step.{count}
 use Rattle.rules.specs.Lists.{any}
 use Rattle.rules.specs.Tables.{documents}
@@ -27,14 +26,17 @@ lowest-requires c κs = search needs
 cast-i : tie.Need-cast-i Inv-loop μ-loop
 cast-i c = search needs
 
-mul-if1 : tie.Need-mul-if1 Inv-loop μ-loop
-mul-if1 c = search needs
+mul-at-most : tie.Need-mul-at-most Inv-loop μ-loop
+mul-at-most c = search needs
 
-array-read-if1 : tie.Need-array-read-if1 Inv-loop μ-loop
-array-read-if1 c = search next-below
+array-read-at-most : tie.Need-array-read-at-most Inv-loop μ-loop
+array-read-at-most c = search next-below
+
+at-most-requires : tie.Need-at-most-requires Inv-loop μ-loop
+at-most-requires c κs = search needs
 
 returns : tie.Need-returns Inv-loop μ-loop
-returns c = search (look-hit, le-leb)
+returns c = search look-hit
 
 without-requires : tie.Need-without-requires Inv-loop μ-loop
 without-requires c κs = search needs
@@ -43,7 +45,7 @@ loop-less : tie.Need-loop-less Inv-loop μ-loop
 loop-less c = search rest-fewer
 
 loop-again : tie.Need-loop-again Inv-loop μ-loop
-loop-again c = search (look-next, lt-leb, needs)
+loop-again c = search (look-next, needs)
 
 returns-2 : tie.Need-returns-2 Inv-loop μ-loop
 returns-2 c = search look-end
@@ -57,8 +59,9 @@ any-over-spec =
     loop-holds
     lowest-requires
     cast-i
-    mul-if1
-    array-read-if1
+    mul-at-most
+    array-read-at-most
+    at-most-requires
     returns
     without-requires
     loop-less

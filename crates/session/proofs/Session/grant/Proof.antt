@@ -10,6 +10,9 @@ cast-if1 c = search needs
 returns : tie.Need-returns
 returns c = (search grant-past, λ u f. f)
 
+since-requires : tie.Need-since-requires
+since-requires c κs = search needs
+
 with-exclusive-requires : tie.Need-with-exclusive-requires
 with-exclusive-requires c κs = search needs
 
@@ -17,7 +20,7 @@ with-last-requires : tie.Need-with-last-requires
 with-last-requires c κs = search needs
 
 returns-2 : tie.Need-returns-2
-returns-2 c = (grant-own _ _ _ _ (search needs) _ _ (c .before .before .if2 .taken) (c .before .with-exclusive .ensures .0) (c .with-last .ensures .0), λ u f. c .with-last .ensures .1 u (c .before .with-exclusive .ensures .1 f))
+returns-2 c = (grant-own _ _ _ _ (search needs) _ _ _ (c .before .before .before .if2 .taken) (c .before .before .since .ensures) (c .before .with-exclusive .ensures .0) (c .with-last .ensures .0), λ u f. c .with-last .ensures .1 u (c .before .with-exclusive .ensures .1 f))
 
 holds-requires : tie.Need-holds-requires
 holds-requires c κs = search needs
@@ -37,6 +40,7 @@ grant-spec =
     (tie.spec
     cast-if1
     returns
+    since-requires
     with-exclusive-requires
     with-last-requires
     returns-2

@@ -14,20 +14,23 @@ use Rattle.session.proofs.Session.share.Statement.{statement}
 use Rattle.session.proofs.Session.share.Tie as tie
 
 abbrev Inv-loop : tie.InvT-loop
-Inv-loop now key count s₀ i₀ s i = Working viewPlace (sharing now) count 4 (key .places) (fold (sharing now) (viewSlot s₀) (viewKey key)) (viewSlot s) i × (sessionForm s₀ ≡ true → sessionForm s ≡ true)
+Inv-loop now key count ticks s₀ i₀ s i = Working viewPlace (sharing ticks) count 4 (key .places) (fold (sharing ticks) (viewSlot s₀) (viewKey key)) (viewSlot s) i × (sessionForm s₀ ≡ true → sessionForm s ≡ true)
 
 abbrev μ-loop : tie.MeasureT-loop
-μ-loop now key count s₀ i₀ s i = 4 - i
+μ-loop now key count ticks s₀ i₀ s i = 4 - i
 
 cast-count : tie.Need-cast-count Inv-loop μ-loop
 cast-count c = search needs
+
+since-requires : tie.Need-since-requires Inv-loop μ-loop
+since-requires c κs = search needs
 
 loop-holds : tie.Need-loop-holds Inv-loop μ-loop
 unfolding viewKey
 loop-holds c = (search (work-start, length-mapped, needs), λ f. f)
 
 returns : tie.Need-returns Inv-loop μ-loop
-returns c = (share-key _ _ _ _ (work-end (c .before .before .loop .inv .0) (search needs)), c .before .before .loop .inv .1)
+returns c = (share-key _ _ _ _ _ (c .before .before .before .since .ensures) (work-end (c .before .before .loop .inv .0) (search needs)), c .before .before .loop .inv .1)
 
 mul-q : tie.Need-mul-q Inv-loop μ-loop
 mul-q c = search needs
@@ -51,7 +54,7 @@ loop-again c = (
 )
 
 returns-2 : tie.Need-returns-2 Inv-loop μ-loop
-returns-2 c = (share-key _ _ _ _ (work-past (c .before .loop .inv .0) (search needs)), c .before .loop .inv .1)
+returns-2 c = (share-key _ _ _ _ _ (c .before .before .since .ensures) (work-past (c .before .loop .inv .0) (search needs)), c .before .loop .inv .1)
 
 pub share-spec : {M : Type 1} → statement M
 share-spec =
@@ -60,6 +63,7 @@ share-spec =
     Inv-loop
     μ-loop
     cast-count
+    since-requires
     loop-holds
     returns
     mul-q

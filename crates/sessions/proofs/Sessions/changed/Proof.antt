@@ -2,25 +2,36 @@
 use borrow.Author.Needs.{needs}
 use Prim.Native.Nat.{_-_}
 use Rattle.lists.proofs.Loops.{length-mapped}
+use mathlib.Core.Logic.{⊎-elim}
 use mathlib.Core.Path.{_≡_}
 use mathlib.Core.Bool.{true}
 use Rattle.sessions.specs.Form.{sessionsForm}
 use Rattle.changes.specs.Form.{isUsed}
-use Rattle.sessions.proofs.SessionsLaws.{Making, make-start, make-next, make-end, granted, granted-all}
+use Rattle.session.proofs.SessionLaws.{grant-none}
+use Rattle.sessions.proofs.SessionsLaws.{Making, make-start, make-new, make-same, make-end, granted, granted-all}
 use Rattle.sessions.proofs.Sessions.changed.Statement.{statement}
 use Rattle.sessions.proofs.Sessions.changed.Tie as tie
 
 abbrev Inv-loop : tie.InvT-loop
-Inv-loop n c now end t₀ i₀ t i = Making ((isUsed c ≡ true) × (sessionsForm t₀ ≡ true)) (granted now n c) t₀ t i
+Inv-loop n c now place end t₀ i₀ t i = Making ((isUsed c ≡ true) × (sessionsForm t₀ ≡ true)) (granted now n c) t₀ t i
 
 abbrev μ-loop : tie.MeasureT-loop
-μ-loop n c now end t₀ i₀ t i = end - i
+μ-loop n c now place end t₀ i₀ t i = end - i
 
 used-requires : tie.Need-used-requires Inv-loop μ-loop
 used-requires c κs = search needs
 
 loop-holds : tie.Need-loop-holds Inv-loop μ-loop
 loop-holds c = make-start (search (length-mapped, needs)) (λ h. h .1)
+
+mul-meets : tie.Need-mul-meets Inv-loop μ-loop
+mul-meets c = search needs
+
+element-copy-out-meets : tie.Need-element-copy-out-meets Inv-loop μ-loop
+element-copy-out-meets c = search needs
+
+meets-requires : tie.Need-meets-requires Inv-loop μ-loop
+meets-requires c κs = search needs
 
 mul-grant : tie.Need-mul-grant Inv-loop μ-loop
 mul-grant c = search needs
@@ -45,10 +56,14 @@ loop-less c = search needs
 
 loop-again : tie.Need-loop-again Inv-loop μ-loop
 unfolding granted
-loop-again c = make-next (c .before .before .before .loop .inv) _ _ (search needs) (c .grant .ensures .0) (λ h. c .grant .ensures .1 (h .0))
+loop-again c =
+    ⊎-elim
+    (λ w. make-new (c .before .before .before .before .loop .inv) _ _ _ (search needs) (w .2 .ensures .0) (λ h. w .2 .ensures .1 (h .0)) (w .3))
+    (λ w. make-same (c .before .before .before .before .loop .inv) _ _ (search needs) (grant-none _ _ _ _ (c .before .meets .ensures) (w .0 .left)) (w .1))
+    (c .if1 .came)
 
 returns : tie.Need-returns Inv-loop μ-loop
 returns c = (granted-all _ _ _ _ _ (make-end (c .before .loop .inv) (search needs)), λ u f. c .before .loop .inv .form (u, f))
 
 pub changed-spec : {M : Type 1} → statement M
-changed-spec = tie.close (tie.spec Inv-loop μ-loop used-requires loop-holds mul-grant element-copy-out-grant grant-requires mul-s element-set-from-s add-i loop-less loop-again returns)
+changed-spec = tie.close (tie.spec Inv-loop μ-loop used-requires loop-holds mul-meets element-copy-out-meets meets-requires mul-grant element-copy-out-grant grant-requires mul-s element-set-from-s add-i loop-less loop-again returns)
