@@ -38,24 +38,25 @@ use Rattle.marking.specs.Fields.{workedFields, byMark, shownFields, cach
 
 -- ── worked out ──
 module _ (p : Plant) (own : List Update) (qs : List S.Place) (k : ℕ) where
-  abbrev near : S.Stock
-  near = follow (follow (viewStore (p .store)) (changesIn (pending (viewRows (p .rows)) (viewBuffer (p .buffer))))) own
+  abbrev near : S.Stock → S.Stock
+  near s = follow (follow s (changesIn (pending (viewRows (p .rows)) (viewBuffer (p .buffer))))) own
 
   abbrev away : S.Stock
   away = seenAway (viewKeys (p .keys)) (viewCache (p .cache)) (viewBuffer (p .buffer)) own
 
-  chosen : (fs : List S.Field) → map (λ q. cond (p .near) (near q) (away q)) qs ≡ fs → _≡_ {A = M.Cached} (record { key = k; fields = fs }) (record { key = k; fields = map (value (viewPlant p) own) qs })
+  chosen : (fs : List S.Field) → map (λ q. cond (p .near) (near (viewStore (p .store)) q) (away q)) qs ≡ fs → _≡_ {A = M.Cached} (record { key = k; fields = fs }) (record { key = k; fields = map (value (viewPlant p) own) qs })
   unfolding viewPlant
   chosen fs e = ap (λ (x : List S.Field). record { key = k; fields = x }) (sym e)
 
-  pub worked-near : (r : Cached) → p .near ≡ true → viewCached r ≡ record { key = k; fields = map near qs } → viewCached r ≡ record { key = k; fields = map (value (viewPlant p) own) qs }
-  worked-near r h e = e ∙ chosen (map near qs) (rw h refl)
+  pub worked-near : (t r : Cached) → p .near ≡ true → viewCached t ≡ record { key = k; fields = map (viewStore (p .store)) qs }
+      → ((s : S.Stock) → viewCached t .fields ≡ map s qs → viewCached r ≡ record { key = k; fields = map (near s) qs }) → viewCached r ≡ record { key = k; fields = map (value (viewPlant p) own) qs }
+  worked-near t r h et e = e (viewStore (p .store)) (ap (λ (x : M.Cached). x .fields) et) ∙ chosen (map (near (viewStore (p .store))) qs) (rw h refl)
 
   pub worked-away : (r : Cached) → p .near ≡ false → viewCached r ≡ record { key = k; fields = map away qs } → viewCached r ≡ record { key = k; fields = map (value (viewPlant p) own) qs }
   worked-away r h e = e ∙ chosen (map away qs) (rw h refl)
 
-pub near-form : (p : Plant) (r : Cached) → (storeForm (p .store) ≡ true → cachedForm r ≡ true) → plantForm p ≡ true → cachedForm r ≡ true
-near-form p r g f = g (form-parts p f .store)
+pub near-form : (p : Plant) (t r : Cached) → (storeForm (p .store) ≡ true → cachedForm t ≡ true) → (cachedForm t ≡ true → cachedForm r ≡ true) → plantForm p ≡ true → cachedForm r ≡ true
+near-form p t r g h f = h (g (form-parts p f .store))
 
 pub away-form : (p : Plant) (r : Cached) → (cacheForm (p .cache) ≡ true → cachedForm r ≡ true) → plantForm p ≡ true → cachedForm r ≡ true
 away-form p r g f = g (form-parts p f .cache)

@@ -33,7 +33,8 @@ fn worked(p: Plant, own: Changes, key: Key, k: u8) -> Cached
     ensures form { λ r. ⌜ (plantForm p ≡ true → cachedForm r ≡ true) ⌝ }
 {
     if p.near {
-        return showing::near(p.store, p.rows, p.buffer, own, key, k);
+        let stored = showing::stored(p.store, key, k);
+        return showing::near(stored, p.rows, p.buffer, own, key, k);
     }
     showing::away(p.keys, p.cache, p.buffer, own, key, k)
 }

@@ -4,18 +4,15 @@ use mathlib.Core.Path.{_≡_, refl, _∙_, ap}
 use mathlib.Core.Bool.{Bool, true, false}
 use mathlib.Core.List.{List}
 use Rattle.rules.specs.Lists.{any}
-use Rattle.rules.specs.Values.{Place, Field, absent}
+use Rattle.rules.specs.Values.{Place, Field, absent, Stock}
 use Rattle.rules.specs.Changes.{Update, run, follow, setsIt}
-use Rattle.rules.specs.Tables.{Plant, Cached, Batch, pending, changesIn}
-use Rattle.rules.specs.Reading.{current, seen, showsIt, cachedField, knownAway, seenAway}
+use Rattle.rules.specs.Tables.{Cached, Batch, changesIn}
+use Rattle.rules.specs.Reading.{showsIt, cachedField, knownAway, seenAway}
 use Rattle.reading.specs.Shown.{shownAway}
 
--- the promises' words are the rules' current stock, and what a session sees of it
-pub current-is : (p : Plant) → current p ≡ follow (p .store) (changesIn (pending (p .rows) (p .buffer)))
-current-is p = refl
-
-pub seen-is : (p : Plant) (own : List Update) → seen p own ≡ follow (follow (p .store) (changesIn (pending (p .rows) (p .buffer)))) own
-seen-is p own = refl
+-- from the field of a stock the promise of `seen` is the stock followed by both: what a session sees by the rules, where it is the store
+pub seen-is : (s : Stock) (cs own : List Update) (q : Place) {f r : Field} → r ≡ run own q (run cs q f) → f ≡ s q → r ≡ follow (follow s cs) own q
+seen-is s cs own q h e = h ∙ ap (λ (x : Field). run own q (run cs q x)) e
 
 pub run-from : (cs : List Update) (q : Place) {f g r : Field} → r ≡ run cs q f → f ≡ g → r ≡ run cs q g
 run-from cs q h e = h ∙ ap (run cs q) e

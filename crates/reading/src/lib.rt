@@ -1,13 +1,12 @@
-// A place's field: the current one, what a session sees, and both without the store.
+// What a session sees at a place, from the store's field there and without it.
 ghost use mathlib.Core.Path.{_≡_};
 ghost use mathlib.Core.Bool.{true};
-ghost use Rattle.rules.specs.Changes.{follow};
+ghost use Rattle.rules.specs.Changes.{run};
 ghost use Rattle.rules.specs.Tables.{pending, changesIn};
 ghost use Rattle.rules.specs.Reading.{knownAway, seenAway};
 ghost use Rattle.keys.specs.View.{viewPlace, viewKeys};
 ghost use Rattle.field.specs.View.{viewField, fieldForm};
 ghost use Rattle.changes.specs.View.{viewChanges};
-ghost use Rattle.store.specs.View.{viewStore, storeForm};
 ghost use Rattle.rows.specs.View.{viewRows};
 ghost use Rattle.buffer.specs.View.{viewBuffer};
 ghost use Rattle.cache.specs.View.{viewCache};
@@ -20,23 +19,14 @@ use field::Field;
 use keys::Keys;
 use keys::Place;
 use rows::Rows;
-use store::Store;
 
-// The store's field, followed by the buffered changes of sessions without a row.
-pub fn current(store: Store, rows: Rows, buffer: Buffer, q: Place) -> Field
-    ensures shows { λ r. ⌜ viewField r ≡ follow (viewStore store) (changesIn (pending (viewRows rows) (viewBuffer buffer))) (viewPlace q) ⌝ }
-    ensures form { λ r. ⌜ (storeForm store ≡ true → fieldForm r ≡ true) ⌝ }
+// What a session with these changes of its own sees, from the store's field: the buffered changes of sessions without a row
+// come before its own.
+pub fn seen(stored: Field, rows: Rows, buffer: Buffer, own: Changes, q: Place) -> Field
+    ensures shows { λ r. ⌜ viewField r ≡ run (viewChanges own) (viewPlace q) (run (changesIn (pending (viewRows rows) (viewBuffer buffer))) (viewPlace q) (viewField stored)) ⌝ }
+    ensures form { λ r. ⌜ (fieldForm stored ≡ true → fieldForm r ≡ true) ⌝ }
 {
-    let stored = store.field(q);
-    buffer.carried(rows, q, stored)
-}
-
-// What a session with these changes of its own sees.
-pub fn seen(store: Store, rows: Rows, buffer: Buffer, own: Changes, q: Place) -> Field
-    ensures shows { λ r. ⌜ viewField r ≡ follow (follow (viewStore store) (changesIn (pending (viewRows rows) (viewBuffer buffer)))) (viewChanges own) (viewPlace q) ⌝ }
-    ensures form { λ r. ⌜ (storeForm store ≡ true → fieldForm r ≡ true) ⌝ }
-{
-    let now = current(store, rows, buffer, q);
+    let now = buffer.carried(rows, q, stored);
     own.run(q, now)
 }
 

@@ -27,7 +27,8 @@ pub fn field(p: Plant, own: Changes, q: Place) -> Field
 {
     let near = p.near;
     if near {
-        return reading::seen(p.store, p.rows, p.buffer, own, q);
+        let stored = p.store.field(q);
+        return reading::seen(stored, p.rows, p.buffer, own, q);
     }
     reading::seen_away(p.keys, p.cache, p.buffer, own, q)
 }

@@ -1,29 +1,33 @@
 -- The fields of a key's places, and the words that show them: one law for each way out of a function.
 use mathlib.Core.Path.{_≡_, refl, sym, _∙_, ap}
-use mathlib.Core.Bool.{cond}
+use mathlib.Core.Bool.{true, cond}
 use mathlib.Core.List.{List, [], _∷_, _++_, append-assoc, append-nil, map}
 use Prim.Native.Nat.{ℕ, _+_, _-_, _*_, _≤_, _<_, min}
 use native.Mathlib.Numerals.{add-one}
 use native.Mathlib.Omega.{arith}
-use lib.Dec.{leb}
+use lib.Dec.{eqb, ltb, leb}
 use lib.IntN.{ℤ}
-use lib.ListN.{length, getD, take, drop, length-append, length-drop, drop-of-length-le}
+use lib.ListN.{length, getD, take, drop, length-append, length-drop, length-map, drop-of-length-le}
 use lib.Seq.{take-all, take-at, drop-at, drop-drop, take-suc}
-use borrow.Author.Tests.{le-leb, lt-leb}
+use borrow.Author.Tests.{le-leb, lt-leb, ltb-true, ltb-false}
 use borrow.Rule.Slice.PartMut.{putMid}
 use Rattle.rules.specs.Limits.{placeLimit, wordsPerField}
 use Rattle.rules.specs.Lists.{pushed}
 use Rattle.rules.specs.Values as S
 use Rattle.rules.specs.Values.{show, showAll}
 use Rattle.rules.specs.Tables as M
+use Rattle.rules.proofs.Laws.{byCase, and-true}
 use Rattle.keys.specs.View.{noPlace, viewPlace, viewKey}
 use Rattle.keys.specs.declared.Key.{Key}
-use Rattle.field.specs.View.{viewField}
+use Rattle.field.specs.View.{viewField, fieldForm}
 use Rattle.field.specs.declared.Field.{Field}
 use Rattle.field.proofs.WordLaws.{show-length}
 use Rattle.lists.proofs.Views.{counted-length, counted-few, counted-full, counted-at}
 use Rattle.cached.specs.View.{viewCached, withField}
+use Rattle.cached.specs.Form.{isBlankField, cachedForm}
 use Rattle.cached.specs.declared.Cached.{Cached}
+use Rattle.lists.proofs.Indexed.{at-index}
+use Rattle.lists.proofs.Forms.{form-parts, used-at, unused-at}
 use Rattle.lists.proofs.Walks.{Making, make-start, make-next, make-end}
 use Rattle.showing.specs.Shown.{shownIn}
 
@@ -32,7 +36,7 @@ pub record Filling (g : S.Place → S.Field) (key : Key) (k : ℕ) (t : Cached) 
   pub made : Making g (viewKey key) placeLimit (viewCached t .fields) i
   pub number : viewCached t .key ≡ k
 
-few-places : (key : Key) → length (key .places) ≡ 4 → length (viewKey key) ≤ 4
+pub few-places : (key : Key) → length (key .places) ≡ 4 → length (viewKey key) ≤ 4
 unfolding viewKey
 few-places key l = omega (arith, counted-length viewPlace (key .count) (key .places) 4 l)
 
@@ -71,6 +75,21 @@ module _ (c : Cached) (l : length (c .fields) ≡ 4) where
   field-at i d h =
       let m : length (viewCached c .fields) ≡ min (c .count) 4 = counted-length viewField (c .count) (c .fields) 4 l in
       counted-at viewField (c .count) (c .fields) d S.absent i (omega arith) (omega arith)
+
+-- ── the field at a place of a key, in a cached key that has a stock's fields there ──
+pub stored-at : (c : Cached) (key : Key) (n i : ℕ) (d : Field) → n ≡ length (viewKey key) → i < n → length (c .fields) ≡ 4 → (s : S.Stock) → viewCached c .fields ≡ map s (viewKey key) → (q : S.Place) → q ≡ getD (viewKey key) i noPlace → viewField (getD (c .fields) i d) ≡ s q
+stored-at c key n i d e h l s v q a =
+    field-at c l i d (rw (v, length-map (viewKey key) s) (omega arith))
+    ∙ ap (λ (fs : List S.Field). getD fs i S.absent) v ∙ sym (at-index s S.absent (viewKey key) i noPlace (omega arith)) ∙ ap s (sym a)
+
+-- in form, used or not
+pub any-form : (c : Cached) (i : ℕ) (d : Field) → i < 4 → cachedForm c ≡ true → fieldForm (getD (c .fields) i d) ≡ true
+unfolding cachedForm isBlankField
+any-form c i d h f =
+    let l = form-parts 4 fieldForm isBlankField (c .count) (c .fields) f .long in
+    byCase (ltb i (c .count))
+    (λ t. used-at 4 fieldForm isBlankField (c .count) (c .fields) i d (ltb-true i (c .count) t) f)
+    (λ t. and-true (eqb (getD (c .fields) i d .kind) 0) (fieldForm (getD (c .fields) i d)) (unused-at 4 fieldForm isBlankField (c .count) (c .fields) i d (ltb-false i (c .count) t) (omega arith) f) .1)
 
 -- ── a loop that shows the fields fs, eight words for each, at the front of v ──
 pub record Showing (fs : List S.Field) (v vs : List ℤ) (i : ℕ) : Type 0 where

@@ -5,6 +5,7 @@ ghost use mathlib.Core.List.{map};
 ghost use Prim.Native.Nat.{_≤_};
 ghost use lib.ListN.{length};
 ghost use Rattle.rules.specs.Limits.{placeLimit};
+ghost use Rattle.rules.specs.Values.{Stock};
 ghost use Rattle.rules.specs.Changes.{follow};
 ghost use Rattle.rules.specs.Tables.{pending, changesIn};
 ghost use Rattle.rules.specs.Reading.{seenAway};
@@ -28,9 +29,9 @@ use keys::Keys;
 use rows::Rows;
 use store::Store;
 
-// What a session with these changes of its own sees at the places of the key, from the store and the buffer.
-pub fn near(store: Store, rows: Rows, buffer: Buffer, own: Changes, key: Key, k: u8) -> Cached
-    ensures shows { λ r. ⌜ viewCached r ≡ record { key = k; fields = map (follow (follow (viewStore store) (changesIn (pending (viewRows rows) (viewBuffer buffer)))) (viewChanges own)) (viewKey key) } ⌝ }
+// The store's fields at the places of the key.
+pub fn stored(store: Store, key: Key, k: u8) -> Cached
+    ensures shows { λ r. ⌜ viewCached r ≡ record { key = k; fields = map (viewStore store) (viewKey key) } ⌝ }
     ensures form { λ r. ⌜ (storeForm store ≡ true → cachedForm r ≡ true) ⌝ }
 {
     let n = key.len();
@@ -38,7 +39,24 @@ pub fn near(store: Store, rows: Rows, buffer: Buffer, own: Changes, key: Key, k:
     let mut i: u8 = 0;
     while i < n {
         let q = key.place(i);
-        t = t.push(reading::seen(store, rows, buffer, own, q));
+        t = t.push(store.field(q));
+        i += 1;
+    }
+    t
+}
+
+// What a session with these changes of its own sees at the places of the key, from the store's fields there and the buffer:
+// whatever store it is that has those fields.
+pub fn near(stored: Cached, rows: Rows, buffer: Buffer, own: Changes, key: Key, k: u8) -> Cached
+    ensures shows { λ r. ⌜ ((s : Stock) → viewCached stored .fields ≡ map s (viewKey key) → viewCached r ≡ record { key = k; fields = map (follow (follow s (changesIn (pending (viewRows rows) (viewBuffer buffer)))) (viewChanges own)) (viewKey key) }) ⌝ }
+    ensures form { λ r. ⌜ (cachedForm stored ≡ true → cachedForm r ≡ true) ⌝ }
+{
+    let n = key.len();
+    let mut t = Cached::of(k);
+    let mut i: u8 = 0;
+    while i < n {
+        let at = key.place(i);
+        t = t.push(reading::seen(stored.fields[i as usize], rows, buffer, own, at));
         i += 1;
     }
     t

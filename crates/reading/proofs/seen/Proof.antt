@@ -4,14 +4,14 @@ use Rattle.reading.proofs.ReadingLaws.{run-from}
 use Rattle.reading.proofs.seen.Statement.{statement}
 use Rattle.reading.proofs.seen.Tie as tie
 
-current-requires : tie.Need-current-requires
-current-requires c κs = search needs
+carried-requires : tie.Need-carried-requires
+carried-requires c κs = search needs
 
 run-requires : tie.Need-run-requires
 run-requires c κs = search needs
 
 returns : tie.Need-returns
-returns c = (search run-from, λ f. c .run .ensures .1 (c .before .current .ensures .1 f))
+returns c = (search run-from, λ f. c .run .ensures .1 (c .before .carried .ensures .1 f))
 
 pub seen-spec : {M : Type 1} → statement M
-seen-spec = tie.close (tie.spec current-requires run-requires returns)
+seen-spec = tie.close (tie.spec carried-requires run-requires returns)
