@@ -10,12 +10,12 @@ use mir.Val.{SFits}
 use borrow.Author.Tests.{lt-ltb, eq-eqb, ne-eqb, not-false}
 use Rattle.rules.specs.Limits.{documentCount, fieldCount, lastSession}
 use Rattle.rules.specs.Values.{below, natOf}
-use Rattle.rules.specs.Refusals.{outOfRange, noSlot}
+use Rattle.rules.specs.Refusals.{outOfRange, noSlot, wasDoomed}
 use Rattle.rules.specs.Changes.{placeOf, updateOf}
 use Rattle.rules.specs.Tables as M
 use Rattle.rules.specs.Calls.{Change}
 use Rattle.rules.specs.Conditions.{goodPlace, goodChange, conditions}
-use Rattle.rules.specs.Effects.{grant, changed}
+use Rattle.rules.specs.Effects.{changed}
 use Rattle.rules.specs.Step.{accepted}
 use Rattle.rules.proofs.Laws.{and-true, below-is, not-met, NoneMet}
 use Rattle.arguments.proofs.Numbers.{held}
@@ -23,6 +23,8 @@ use Rattle.keys.specs.View.{viewPlace}
 use Rattle.changes.specs.View.{viewUpdate}
 use Rattle.changes.specs.Form.{isUsed}
 use Rattle.changes.specs.declared.Update.{Update}
+use Rattle.session.specs.View.{grantAt}
+use Rattle.session.proofs.Granting.{grant-kept}
 use Rattle.sessions.specs.View.{viewSessions}
 use Rattle.sessions.specs.Form.{sessionsForm}
 use Rattle.sessions.specs.declared.Sessions.{Sessions}
@@ -53,7 +55,7 @@ module _ (p : Plant) (z d f k v : ℤ) (fd : SFits w64 d) (ff : SFits w64 f) (fk
       absurd (true≢false (sym (was-good lent m) ∙ sym good-if ∙ ap not (eq-eqb (c .kind) 0 g)))
 
   module _ (fz : SFits w64 z) (n : ℕ) (e : n ≡ cond (below (held z) (suc lastSession)) (natOf (held z)) 0)
-      (t : Sessions) (et : viewSessions t ≡ cond (ltb (c .place .document) documentCount) (M.each (grant (p .clock) n (viewUpdate c)) (viewSessions (p .sessions))) (viewSessions (p .sessions))) where
+      (t : Sessions) (et : viewSessions t ≡ cond (ltb (c .place .document) documentCount) (M.each (grantAt (p .clock) n (viewUpdate c)) (viewSessions (p .sessions))) (viewSessions (p .sessions))) where
     in-stock : goodPlace d f && goodChange k v ≡ true → ltb (c .place .document) documentCount ≡ true
     unfolding viewUpdate viewPlace
     in-stock g =
@@ -67,7 +69,8 @@ module _ (p : Plant) (z d f k v : ℤ) (fd : SFits w64 d) (ff : SFits w64 f) (fk
         let g = was-good lent m in
         let i : M.isSlot z (viewSessions (p .sessions)) ≡ true = not-false _ (not-met _ noSlot (m .1 .0)) in
         let q : natOf z ≡ n = number-is (viewPlant p) (kept-parts p kept) z fz n e (sym (slot-is (viewPlant p) (kept-parts p kept) z fz n e) ∙ i) in
-        rw (et, in-stock g, update-is p z d f k v fd ff fk fv c eg ec g, q) refl
+        let l : M.session n (viewSessions (p .sessions)) .doomed ≡ false = rw q at (not-met _ wasDoomed (m .1 .1 .0)) in
+        rw (et, in-stock g, grant-kept n (kept-parts p kept .slots) l (viewUpdate c), update-is p z d f k v fd ff fk fv c eg ec g, q) refl
         ∙ left-accepted (Change z d f k v) lent (chosen (viewPlant p)) (viewPlant p) m
 
 pub changes-form : (p : Plant) (t : Sessions) (c : Update) (g : Bool) → not (eqb (c .kind) 0) ≡ g → (g ≡ true → isUsed c ≡ true) → (c .kind ≡ 0 → ⊥)

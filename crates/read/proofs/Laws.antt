@@ -12,7 +12,7 @@ use borrow.Author.Tests.{not-false, ltb-true, ltb-false, le-leb}
 use Rattle.rules.specs.Limits.{keyCount, lastSession, wordsPerField}
 use Rattle.rules.specs.Values.{below, natOf}
 use Rattle.rules.specs.Values as S
-use Rattle.rules.specs.Refusals.{Refusal, outOfRange, fewWords, storeAway, first}
+use Rattle.rules.specs.Refusals.{Refusal, outOfRange, wasDoomed, fewWords, storeAway, first}
 use Rattle.rules.specs.Tables as M
 use Rattle.rules.specs.Reading.{seen}
 use Rattle.rules.specs.Calls.{Call, Read, Pick, fine, markNumber}
@@ -26,8 +26,9 @@ use Rattle.rules.proofs.Away.{key-places}
 use Rattle.arguments.proofs.Numbers.{held}
 use Rattle.keys.specs.View.{viewKey, viewKeys}
 use Rattle.keys.specs.declared.Key.{Key}
-use Rattle.session.specs.View.{within}
+use Rattle.session.specs.View.{within, withSharedAt}
 use Rattle.session.proofs.SessionLaws.{within-all}
+use Rattle.session.proofs.Granting.{shared-kept}
 use Rattle.sessions.specs.View.{viewSessions}
 use Rattle.sessions.specs.Form.{sessionsForm}
 use Rattle.sessions.specs.declared.Sessions.{Sessions}
@@ -65,6 +66,10 @@ module _ (p : Plant) (h : keptPlant p ≡ true) (n k : ℕ) (lent : List ℤ) (m
   in-range : k < keyCount
   unfolding conditions
   in-range = ltb-true k keyCount (not-false _ (not-met _ outOfRange (m .0)))
+
+  is-live : M.session n (viewSessions (p .sessions)) .doomed ≡ false
+  unfolding conditions viewPlant
+  is-live = not-met _ wasDoomed (m .1 .1 .0)
 
   fields-are : shownFields n k (viewPlant p) ≡ map (seen (viewPlant p) (ownOf n (viewPlant p))) (viewPlant p .keys k)
   unfolding conditions
@@ -120,15 +125,15 @@ module _ (p : Plant) (z : ℤ) (fz : SFits w64 z) (n : ℕ) (en : n ≡ cond (be
 module _ (p : Plant) (z : ℤ) (fz : SFits w64 z) (y : ℤ) (fy : SFits w64 y)
     (n : ℕ) (en : n ≡ cond (below (held z) (suc lastSession)) (natOf (held z)) 0) (k : ℕ) (ek : k ≡ cond (below (held y) keyCount) (natOf (held y)) keyCount)
     (c : Cache) (ec : viewCache c ≡ cacheNow n k (viewPlant p)) (key : Key) (eq : viewKey key ≡ viewKeys (p .keys) k)
-    (s : Sessions) (es : viewSessions s ≡ M.each (onlyAt n (withShared (p .clock) (within (viewKey key)))) (viewSessions (p .sessions))) where
+    (s : Sessions) (es : viewSessions s ≡ M.each (onlyAt n (withSharedAt (p .clock) (within (viewKey key)))) (viewSessions (p .sessions))) where
   abbrev left : Plant
   left = record { store = p .store; keys = p .keys; cache = c; sessions = s; buffer = p .buffer; rows = p .rows; hands = p .hands; queue = p .queue; clock = p .clock; near = p .near; next = p .next }
 
   -- all documents of the key are among those that leases are held on
-  shared-is : keptPlant p ≡ true → k < keyCount → viewSessions s ≡ M.each (onlyAt n (withShared (p .clock) (viewKeys (p .keys) k))) (viewSessions (p .sessions))
+  shared-is : keptPlant p ≡ true → k < keyCount → M.session n (viewSessions (p .sessions)) .doomed ≡ false → viewSessions s ≡ M.each (onlyAt n (withShared (p .clock) (viewKeys (p .keys) k))) (viewSessions (p .sessions))
   unfolding viewPlant
-  shared-is h l =
-      es ∙ ap (λ (qs : List S.Place). M.each (onlyAt n (withShared (p .clock) qs)) (viewSessions (p .sessions)))
+  shared-is h l d =
+      es ∙ shared-kept n (kept-parts p h .slots) d (within (viewKey key)) ∙ ap (λ (qs : List S.Place). M.each (onlyAt n (withShared (p .clock) qs)) (viewSessions (p .sessions)))
       (ap within eq ∙ within-all (viewKeys (p .keys) k) (key-places (viewPlant p) k (kept-parts p h) l))
 
   pub leaves : Performs (Read z y) p left
@@ -136,7 +141,7 @@ module _ (p : Plant) (z : ℤ) (fz : SFits w64 z) (y : ℤ) (fy : SFits w64 y)
   leaves h lent i =
       let e = named p z fz n en y fy k ek h lent in
       let m = none-held (Read (pos n) (pos k)) lent (chosen (viewPlant p)) (viewPlant p) _ (ap (λ (x : C.Result). x .answer) e) i in
-      rw (ec ∙ cache-are p h n k lent m, shared-is h (in-range p h n k lent m)) refl
+      rw (ec ∙ cache-are p h n k lent m, shared-is h (in-range p h n k lent m) (is-live p h n k lent m)) refl
       ∙ left-accepted (Read (pos n) (pos k)) lent (chosen (viewPlant p)) (viewPlant p) m
       ∙ ap (λ (x : C.Result). x .plant) (sym e)
 
