@@ -1,0 +1,8 @@
+//! A second implementation of the stock cache, written from papers 00 and 01 alone.
+
+pub mod calls;
+pub mod field;
+pub mod lines;
+pub mod plant;
+pub mod refusal;
+pub mod serve;
