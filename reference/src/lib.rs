@@ -2,7 +2,9 @@
 
 pub mod calls;
 pub mod field;
+pub mod generator;
 pub mod lines;
 pub mod plant;
+pub mod random;
 pub mod refusal;
 pub mod serve;
