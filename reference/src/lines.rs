@@ -45,47 +45,72 @@ pub fn call_columns(columns: [u8; CALL_COLUMNS]) -> Option<u8> {
     }
 }
 
-/// Sixteen bytes that are all the given one; numbers use the lower twelve.
-const fn all(byte: u8) -> u128 {
-    u128::from_le_bytes([byte; 16])
+/// Eight bytes that are all the given one.
+const fn all(byte: u8) -> u64 {
+    u64::from_le_bytes([byte; 8])
 }
 
-/// The twelve lower bytes of a word.
-const TWELVE: u128 = (1 << (8 * COLUMNS)) - 1;
-
 /// The number in twelve columns, or none if they are not in form.
+pub fn read_number(columns: &[u8; COLUMNS]) -> Option<i64> {
+    let (first, last) = columns.split_at(4);
+    let last = u64::from_le_bytes(last.try_into().unwrap());
+    if first == b"    " {
+        read_short_number(last)
+    } else {
+        read_long_number(columns)
+    }
+}
+
+/// The number in the last eight columns when the first four are spaces, as almost all are.
 ///
 /// All columns are looked at together, as the bytes of one word with the first column lowest.
-pub fn read_number(columns: &[u8; COLUMNS]) -> Option<i64> {
-    let (first, last) = columns.split_at(8);
-    let first = u64::from_le_bytes(first.try_into().unwrap());
-    let last = u32::from_le_bytes(last.try_into().unwrap());
-    let text = u128::from(first) | u128::from(last) << 64;
-
-    let spaces = ((text ^ all(b' ')) & TWELVE).trailing_zeros() as usize / 8;
-    if spaces >= COLUMNS {
+#[inline(always)]
+fn read_short_number(text: u64) -> Option<i64> {
+    let spaces = (text ^ all(b' ')).trailing_zeros() / 8;
+    if spaces >= 8 {
         return None;
     }
-    let minus = columns[spaces] == b'-';
-    let start = spaces + usize::from(minus);
-    if start >= COLUMNS {
+    let minus = (text >> (8 * spaces)) as u8 == b'-';
+    let start = spaces + u32::from(minus);
+    if start >= 8 {
         return None;
     }
     // A first digit 0 is right only in the number 0, which has no minus.
-    if columns[start] == b'0' && (start < COLUMNS - 1 || minus) {
+    if (text >> (8 * start)) as u8 == b'0' && (start < 7 || minus) {
         return None;
     }
     // With zeros before the digits every column must be a digit.
     let before = (1 << (8 * start)) - 1;
     let digits = ((text & !before) | (all(b'0') & before)) ^ all(b'0');
-    let digits = digits & TWELVE;
     // 0x76 carries a byte of 10 or more into its top bit. A byte with the top bit set may carry
     // into the next one, but then the number is refused already.
-    if (digits | (digits + (all(0x76) & TWELVE))) & all(0x80) & TWELVE != 0 {
+    if (digits | digits.wrapping_add(all(0x76))) & all(0x80) != 0 {
         return None;
     }
-    let value = i64::from(four_digits(digits as u32)) * 100_000_000 + eight_digits((digits >> 32) as u64) as i64;
-    Some(if minus { -value } else { value })
+    let size = eight_digits(digits) as i64;
+    Some(if minus { -size } else { size })
+}
+
+/// The number in twelve columns, one column after the other.
+#[cold]
+fn read_long_number(columns: &[u8; COLUMNS]) -> Option<i64> {
+    let spaces = columns.iter().take_while(|&&byte| byte == b' ').count();
+    let (minus, digits) = match &columns[spaces..] {
+        [b'-', digits @ ..] => (true, digits),
+        digits => (false, digits),
+    };
+    // No digit at all, a leading zero or -0.
+    if digits.is_empty() || (digits[0] == b'0' && (digits.len() > 1 || minus)) {
+        return None;
+    }
+    let mut size = 0;
+    for &digit in digits {
+        if !digit.is_ascii_digit() {
+            return None;
+        }
+        size = size * 10 + i64::from(digit - b'0');
+    }
+    Some(if minus { -size } else { size })
 }
 
 /// The value of eight decimal digits, one in each byte, the first lowest.
@@ -94,12 +119,6 @@ fn eight_digits(digits: u64) -> u64 {
     let pairs = (digits.wrapping_mul((10 << 8) + 1) >> 8) & 0x00ff_00ff_00ff_00ff;
     let fours = (pairs.wrapping_mul((100 << 16) + 1) >> 16) & 0x0000_ffff_0000_ffff;
     fours.wrapping_mul((10_000 << 32) + 1) >> 32
-}
-
-/// The value of four decimal digits, one in each byte, the first lowest.
-fn four_digits(digits: u32) -> u32 {
-    let pairs = (digits.wrapping_mul((10 << 8) + 1) >> 8) & 0x00ff_00ff;
-    pairs.wrapping_mul((100 << 16) + 1) >> 16
 }
 
 /// Writes a number of at most twelve columns: right-justified, spaces before.
