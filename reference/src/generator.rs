@@ -69,6 +69,9 @@ enum Step {
     SetUp,
     OutOfRange,
     Garbled,
+    /// A whole session in one go, and a whole carrying by one worker: they fill tables sooner.
+    WholeSession,
+    WholeCarry,
 }
 
 /// A stretch of lines with one inclination.
@@ -113,6 +116,7 @@ const ORDINARY: Phase = Phase {
 
 const FILL_BUFFER: Phase = Phase {
     steps: &[
+        (Step::WholeSession, 60),
         (Step::Begin, 150),
         (Step::Read, 40),
         (Step::Change, 250),
@@ -132,15 +136,17 @@ const FILL_BUFFER: Phase = Phase {
 
 const FILL_ROWS: Phase = Phase {
     steps: &[
-        (Step::Begin, 120),
-        (Step::Read, 20),
-        (Step::Change, 160),
-        (Step::Commit, 130),
-        (Step::Advance, 15),
-        (Step::Worker, 480),
+        (Step::WholeSession, 200),
+        (Step::WholeCarry, 200),
+        (Step::Begin, 20),
+        (Step::Read, 40),
+        (Step::Change, 60),
+        (Step::Commit, 30),
+        (Step::Advance, 20),
+        (Step::Worker, 100),
         (Step::Cut, 6),
         (Step::Sweep, 1),
-        (Step::FlipStore, 3),
+        (Step::FlipStore, 2),
         (Step::Garbled, 4),
     ],
     fates: [8, 2, 1],
@@ -281,7 +287,14 @@ const EXTREMES: Phase = Phase {
 };
 
 const DRAIN: Phase = Phase {
-    steps: &[(Step::Worker, 600), (Step::Sweep, 120), (Step::Advance, 30), (Step::Read, 40), (Step::Begin, 20)],
+    steps: &[
+        (Step::WholeCarry, 200),
+        (Step::Worker, 300),
+        (Step::Sweep, 60),
+        (Step::Advance, 30),
+        (Step::Read, 40),
+        (Step::Begin, 20),
+    ],
     fates: [12, 1, 1],
     away: 0,
     kinds: EVERY_KIND,
@@ -643,6 +656,11 @@ impl<W: Write> Generator<W> {
     }
 
     fn step(&mut self, step: Step, phase: &Phase) -> io::Result<()> {
+        // Without a session most calls of terminals would be refused 2.
+        let terminal = matches!(step, Step::Read | Step::Change | Step::Commit | Step::Abandon | Step::Report);
+        if terminal && self.taken_slots().is_empty() && self.random.percent(85) {
+            self.call(3, &[])?;
+        }
         match step {
             Step::Begin => {
                 if self.call(3, &[])? == 0 && self.random.percent(60) {
@@ -701,7 +719,57 @@ impl<W: Write> Generator<W> {
             }
             Step::OutOfRange => self.out_of_range(phase)?,
             Step::Garbled => self.garbled(phase)?,
+            Step::WholeSession => self.whole_session(phase)?,
+            Step::WholeCarry => self.whole_carry(phase)?,
         }
+        Ok(())
+    }
+
+    /// A session from begin to commit, with no other call in between.
+    fn whole_session(&mut self, phase: &Phase) -> io::Result<()> {
+        if self.call(3, &[])? != 0 {
+            let slots = self.taken_slots();
+            let slot = self.random.pick(&slots);
+            let session = i64::from(self.plant.sessions[slot].number);
+            self.call(7, &[session])?;
+            return Ok(());
+        }
+        let session = self.plant.next_number as i64 - 1;
+        if self.random.percent(30) {
+            let key = self.some_key();
+            self.call(4, &[session, key])?;
+        }
+        for _ in 0..self.random.between(1, 3) {
+            let [document, field, kind, value] = self.change_numbers(session, phase);
+            if self.call(5, &[session, document, field, kind, value])? == 4 {
+                return Ok(());
+            }
+        }
+        self.call(6, &[session])?;
+        Ok(())
+    }
+
+    /// A worker from take to delete, with no other call in between; first it waits for the queue
+    /// lease and empties its hand.
+    fn whole_carry(&mut self, phase: &Phase) -> io::Result<()> {
+        let worker = self.random.below(WORKERS as u64) as usize;
+        if self.plant.hands[worker].session != 0 {
+            self.call(12, &[worker as i64])?;
+        }
+        if self.plant.queue_leased() {
+            let ticks = (self.plant.lease_until - self.plant.clock) as i64;
+            self.call(8, &[ticks])?;
+        }
+        let worker = worker as i64;
+        if self.call(9, &[worker])? != 0 {
+            return Ok(());
+        }
+        let fate = self.weighted(&phase.fates) as i64;
+        self.call(10, &[worker, fate])?;
+        if fate != 0 && self.random.percent(80) {
+            self.call(10, &[worker, 0])?;
+        }
+        self.call(11, &[worker])?;
         Ok(())
     }
 
