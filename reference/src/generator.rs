@@ -436,7 +436,8 @@ impl<W: Write> Generator<W> {
         if self.random.one_in(40) {
             let last = self.plant.next_number as i64 - 1;
             let before = last - self.random.between(0, 9);
-            let strange = [0, -1, 1, last, last + 1, before, 4_294_967_295, 4_294_967_296, 4_294_967_297, -99_999_999_999];
+            let strange =
+                [0, -1, 1, last, last + 1, before, 4_294_967_295, 4_294_967_296, 4_294_967_297, -99_999_999_999];
             return self.random.pick(&strange);
         }
         if self.slot_of(self.session).is_none() || self.random.percent(35) {
@@ -990,7 +991,8 @@ impl<W: Write> Generator<W> {
                 continue;
             }
             if self.random.percent(5) {
-                let ticks = if self.random.one_in(100) { self.random.between(300, 1_200) } else { self.random.between(1, 25) };
+                let ticks =
+                    if self.random.one_in(100) { self.random.between(300, 1_200) } else { self.random.between(1, 25) };
                 self.call(8, &[ticks])?;
                 continue;
             }

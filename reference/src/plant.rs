@@ -29,7 +29,7 @@ pub const SESSION_TICKS: u64 = 1_000;
 pub const NOBODY: u8 = WORKERS as u8;
 
 /// A key: `count` places, or undefined with count 0.
-#[derive(Clone, Copy)]
+#[derive(Clone, Copy, PartialEq, Eq, Debug)]
 pub struct Key {
     pub count: u8,
     pub places: [u8; KEY_PLACES],
@@ -38,7 +38,7 @@ pub struct Key {
 }
 
 /// A slot for a session; free with number 0.
-#[derive(Clone, Copy)]
+#[derive(Clone, Copy, PartialEq, Eq, Debug)]
 pub struct Session {
     pub number: u32,
     /// A doomed session has neither leases nor changes.
@@ -57,7 +57,7 @@ pub struct Session {
 }
 
 /// A committed session that is to be carried to the store.
-#[derive(Clone, Copy)]
+#[derive(Clone, Copy, PartialEq, Eq, Debug)]
 pub struct Buffered {
     pub number: u32,
     pub change_count: u8,
@@ -65,7 +65,7 @@ pub struct Buffered {
 }
 
 /// A worker's hand: empty with session 0.
-#[derive(Clone, Copy)]
+#[derive(Clone, Copy, PartialEq, Eq, Debug)]
 pub struct Hand {
     pub session: u32,
     /// Whether a reply of done or done before has come.
@@ -76,7 +76,7 @@ pub struct Hand {
 ///
 /// Beside the tables of the paper it keeps three that follow from them, so that calls look
 /// values up instead of working them out: `stock`, `shown` and `settled`.
-#[derive(Clone)]
+#[derive(Clone, PartialEq, Eq, Debug)]
 pub struct Plant {
     pub clock: u64,
     pub near: bool,
