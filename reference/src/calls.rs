@@ -29,7 +29,7 @@ pub const DONE: u8 = 1;
 pub const DONE_BEFORE: u8 = 2;
 
 /// The number as an index below the limit, or refusal 1.
-fn index(number: i64, limit: usize) -> Result<usize, Refusal> {
+pub(crate) fn index(number: i64, limit: usize) -> Result<usize, Refusal> {
     if (0..limit as i64).contains(&number) {
         Ok(number as usize)
     } else {
@@ -38,12 +38,12 @@ fn index(number: i64, limit: usize) -> Result<usize, Refusal> {
 }
 
 /// The place of a document and a field, or refusal 1.
-fn place(document: i64, field: i64) -> Result<u8, Refusal> {
+pub(crate) fn place(document: i64, field: i64) -> Result<u8, Refusal> {
     Ok((index(document, DOCUMENTS)? * FIELDS + index(field, FIELDS)?) as u8)
 }
 
 /// A change with all its parts in range, or refusal 1. The value of unset must be 0.
-fn change_of(document: i64, field: i64, kind: i64, value: i64) -> Result<Change, Refusal> {
+pub(crate) fn change_of(document: i64, field: i64, kind: i64, value: i64) -> Result<Change, Refusal> {
     let place = place(document, field)?;
     if !(i64::from(SET)..=i64::from(PULL)).contains(&kind) {
         return Err(Refusal::OutOfRange);

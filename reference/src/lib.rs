@@ -3,6 +3,7 @@
 pub mod calls;
 pub mod field;
 pub mod generator;
+pub mod history;
 pub mod lines;
 pub mod plant;
 pub mod random;
