@@ -72,6 +72,8 @@ enum Step {
     /// A whole session in one go, and a whole carrying by one worker: they fill tables sooner.
     WholeSession,
     WholeCarry,
+    /// A session that reads, waits and then changes what it read, up to the lapse of its leases.
+    Renewal,
 }
 
 /// A stretch of lines with one inclination.
@@ -93,6 +95,7 @@ const NUMBER_KINDS: &[u8] = &[SET, INC, INC, INC];
 
 const ORDINARY: Phase = Phase {
     steps: &[
+        (Step::Renewal, 2),
         (Step::Begin, 80),
         (Step::Read, 200),
         (Step::Change, 260),
@@ -213,6 +216,7 @@ const AWAY: Phase = Phase {
 
 const LAPSES: Phase = Phase {
     steps: &[
+        (Step::Renewal, 25),
         (Step::Begin, 120),
         (Step::Read, 200),
         (Step::Change, 200),
@@ -596,8 +600,9 @@ impl<W: Write> Generator<W> {
             self.call(14, &[0])?;
         }
         let loads = self.random.pick(&[0, 3, 20, 60, 150]);
+        let phase = self.random.pick(&[&ORDINARY, &ORDINARY, &LISTS, &EXTREMES]);
         for _ in 0..loads {
-            self.load()?;
+            self.load(phase)?;
             if !self.plant.near && self.random.one_in(5) {
                 self.call(14, &[1])?;
             }
@@ -620,8 +625,8 @@ impl<W: Write> Generator<W> {
         Ok(())
     }
 
-    fn load(&mut self) -> io::Result<()> {
-        let [document, field, kind, value] = self.change_numbers(0, &ORDINARY);
+    fn load(&mut self, phase: &Phase) -> io::Result<()> {
+        let [document, field, kind, value] = self.change_numbers(0, phase);
         self.call(1, &[document, field, kind, value])?;
         Ok(())
     }
@@ -712,7 +717,7 @@ impl<W: Write> Generator<W> {
             }
             Step::SetUp => {
                 if self.random.percent(50) {
-                    self.load()?;
+                    self.load(phase)?;
                 } else {
                     let key = self.random.between(0, KEYS as i64 - 1);
                     self.map(key)?;
@@ -722,6 +727,7 @@ impl<W: Write> Generator<W> {
             Step::Garbled => self.garbled(phase)?,
             Step::WholeSession => self.whole_session(phase)?,
             Step::WholeCarry => self.whole_carry(phase)?,
+            Step::Renewal => self.renewal(phase)?,
         }
         Ok(())
     }
@@ -771,6 +777,45 @@ impl<W: Write> Generator<W> {
             self.call(10, &[worker, 0])?;
         }
         self.call(11, &[worker])?;
+        Ok(())
+    }
+
+    /// A session whose shared lease becomes exclusive after a while. Then the clock goes to the
+    /// tick at which the first grant or the fresh one lapses, or one beside it.
+    fn renewal(&mut self, phase: &Phase) -> io::Result<()> {
+        if self.call(3, &[])? != 0 {
+            return Ok(());
+        }
+        let session = self.plant.next_number as i64 - 1;
+        let keys = [self.some_key(), self.some_key()];
+        for _ in 0..self.random.between(1, 4) {
+            let key = self.random.pick(&keys);
+            if self.call(4, &[session, key])? != 0 {
+                return Ok(());
+            }
+            let ticks = self.random.pick(&[0, 1, 40, 99, 100, 150]);
+            self.call(8, &[ticks])?;
+        }
+        for _ in 0..self.random.between(1, 2) {
+            let Some(slot) = self.slot_of(session) else {
+                return Ok(());
+            };
+            let [mut document, field, kind, value] = self.change_numbers(session, phase);
+            let shared = self.plant.sessions[slot].shared;
+            if shared != 0 {
+                document = i64::from(shared.trailing_zeros());
+            }
+            self.call(5, &[session, document, field, kind, value])?;
+        }
+        for _ in 0..self.random.between(1, 3) {
+            let Some(slot) = self.slot_of(session) else {
+                return Ok(());
+            };
+            let lapse = self.plant.sessions[slot].lapse as i64;
+            let ticks = lapse - self.plant.clock as i64 + self.random.between(-1, 1);
+            self.call(8, &[ticks.clamp(0, TICKS)])?;
+            self.call(15, &[session])?;
+        }
         Ok(())
     }
 
