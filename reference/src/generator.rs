@@ -1019,7 +1019,7 @@ impl<W: Write> Generator<W> {
     fn work(&mut self) -> io::Result<()> {
         self.work_set_up()?;
         let mut plans = [Plan::default(); 5];
-        // Ticks until the store comes back, in lines.
+        // Turns until the store comes back, 0 while it is near.
         let mut away: u64 = 0;
         while self.lines_left > 0 {
             if away > 0 {
@@ -1111,12 +1111,12 @@ impl<W: Write> Generator<W> {
     fn work_on(&mut self, plan: &mut Plan, away: bool) -> io::Result<()> {
         if plan.session == 0 {
             if self.call(3, &[])? == 0 {
-                let key = self.quiet_key(0);
+                let key = self.quiet_key();
                 *plan = Plan {
                     session: (self.plant.next_number - 1) as u32,
                     reads: self.random.between(1, 3) as u64,
                     changes: self.random.between(1, 4) as u64,
-                    keys: [key, if self.random.percent(40) { self.quiet_key(0) } else { key }],
+                    keys: [key, if self.random.percent(40) { self.quiet_key() } else { key }],
                 };
             }
             return Ok(());
@@ -1165,10 +1165,10 @@ impl<W: Write> Generator<W> {
         Ok(())
     }
 
-    /// A key whose documents no session holds exclusive, mostly none at all.
-    fn quiet_key(&mut self, own: u64) -> usize {
-        let shared = self.plant.sessions.iter().fold(0, |set, session| set | session.shared) & !own;
-        let avoided = if self.random.percent(90) { shared | self.plant.exclusive } else { self.plant.exclusive & !own };
+    /// A key whose documents no session holds exclusive, and mostly none shared either.
+    fn quiet_key(&mut self) -> usize {
+        let shared = self.plant.sessions.iter().fold(0, |set, session| set | session.shared);
+        let avoided = if self.random.percent(90) { shared | self.plant.exclusive } else { self.plant.exclusive };
         let mut key = self.random.pick(&self.mapped);
         for _ in 0..20 {
             if self.plant.keys[key].documents & avoided == 0 {

@@ -206,7 +206,7 @@ pub fn parse_head(piece: &[u8]) -> Option<(Call, usize)> {
 }
 
 /// An answer line under way.
-pub struct Answer<'a> {
+struct Answer<'a> {
     out: &'a mut [u8; LONGEST_ANSWER],
     at: usize,
 }

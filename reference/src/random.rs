@@ -1,6 +1,7 @@
 //! A small generator of pseudo-random numbers, so that a seed always gives the same lines.
 
-/// A state that moves by a fixed odd step and is mixed into each number drawn.
+/// The published generator splitmix64: a state that moves by a fixed odd step and is mixed into
+/// each number drawn.
 #[derive(Clone)]
 pub struct Random {
     state: u64,
@@ -11,7 +12,7 @@ impl Random {
         Random { state: seed }
     }
 
-    pub fn next(&mut self) -> u64 {
+    pub fn draw(&mut self) -> u64 {
         self.state = self.state.wrapping_add(0x9e37_79b9_7f4a_7c15);
         let mut mixed = self.state;
         mixed = (mixed ^ (mixed >> 30)).wrapping_mul(0xbf58_476d_1ce4_e5b9);
@@ -22,7 +23,7 @@ impl Random {
     /// A number from 0 up to but not including the limit, which is not 0.
     pub fn below(&mut self, limit: u64) -> u64 {
         // The upper half of the product; the small unevenness does no harm here.
-        ((u128::from(self.next()) * u128::from(limit)) >> 64) as u64
+        ((u128::from(self.draw()) * u128::from(limit)) >> 64) as u64
     }
 
     /// A number from the first to the last, both included.

@@ -262,7 +262,7 @@ struct Pieces<'a> {
 impl Read for Pieces<'_> {
     fn read(&mut self, buffer: &mut [u8]) -> io::Result<usize> {
         self.at += 1;
-        if self.at % 3 == 0 {
+        if self.at.is_multiple_of(3) {
             return Err(io::ErrorKind::Interrupted.into());
         }
         let length = self.lengths[self.at % self.lengths.len()].min(buffer.len()).min(self.bytes.len());
