@@ -1,0 +1,511 @@
+//! The history of demand 3, kept from calls and their answers alone (paper 01, "The history of demand 3").
+//!
+//! No plant is asked here. An accepted call is noted and its answer held to what the history says;
+//! a refused one notes nothing.
+
+use std::collections::VecDeque;
+use std::fmt;
+
+use crate::calls::{change_of, index, place, DONE, DONE_BEFORE, NO_WORD};
+use crate::field::{Change, Field, WORDS};
+use crate::lines::{call_columns, parse, read_number, Call, CALL_COLUMNS};
+use crate::plant::{CHANGES, KEYS, KEY_PLACES, PLACES, ROWS, SWEPT, WORKERS};
+use crate::refusal::Refusal;
+
+/// What answers were held to the history, in numbers.
+#[derive(Clone, Copy, Default, PartialEq, Eq, Debug)]
+pub struct Held {
+    pub lines: u64,
+    pub accepted: u64,
+    /// Pages opened, those committed, and the committed ones that change something.
+    pub pages: u64,
+    pub committed: u64,
+    pub buffered: u64,
+    /// Reads that showed the stock of their time, and those held again at their page's place.
+    pub reads: u64,
+    pub committed_reads: u64,
+    /// Changes of committed pages.
+    pub committed_changes: u64,
+    pub reports: u64,
+    pub takes: u64,
+    /// Applies that were accepted, and sessions that they carried to the store.
+    pub applies: u64,
+    pub carried: u64,
+    pub deletes: u64,
+    pub sweeps: u64,
+    pub swept: u64,
+}
+
+impl fmt::Display for Held {
+    fn fmt(&self, to: &mut fmt::Formatter) -> fmt::Result {
+        write!(
+            to,
+            "no contradiction: {} lines, {} accepted; {} pages, {} committed, {} of them buffered; \
+             {} reads held as answered, {} of them again at their commit; {} committed changes; {} reports; \
+             {} takes, {} applies, {} sessions carried, {} deletes, {} sweeps of {} rows",
+            self.lines,
+            self.accepted,
+            self.pages,
+            self.committed,
+            self.buffered,
+            self.reads,
+            self.committed_reads,
+            self.committed_changes,
+            self.reports,
+            self.takes,
+            self.applies,
+            self.carried,
+            self.deletes,
+            self.sweeps,
+            self.swept
+        )
+    }
+}
+
+/// The first line whose answer contradicts the history, counted from 1.
+#[derive(Clone, PartialEq, Eq, Debug)]
+pub struct Contradiction {
+    pub line: u64,
+    pub what: String,
+}
+
+impl fmt::Display for Contradiction {
+    fn fmt(&self, to: &mut fmt::Formatter) -> fmt::Result {
+        write!(to, "line {}: {}", self.line, self.what)
+    }
+}
+
+/// What stands on a page, in the order of the calls.
+enum Entry {
+    Read { places: Vec<u8>, words: Vec<i64> },
+    Change(Change),
+}
+
+/// A session's page.
+#[derive(Default)]
+struct Page {
+    entries: Vec<Entry>,
+    /// Whether commit or abandon was accepted; the entries are dropped then.
+    ended: bool,
+    /// Its place among the committed pages that change something.
+    order: Option<usize>,
+}
+
+impl Page {
+    fn changes(&self) -> impl Iterator<Item = &Change> {
+        self.entries.iter().filter_map(|entry| match entry {
+            Entry::Change(change) => Some(change),
+            Entry::Read { .. } => None,
+        })
+    }
+}
+
+/// The session noted for a worker.
+#[derive(Clone, Copy)]
+struct Note {
+    session: usize,
+    /// Whether a reply of done or done before was answered.
+    replied: bool,
+}
+
+struct History {
+    /// The starting stock followed by all pages committed so far.
+    stock: [Field; PLACES],
+    /// The places of each key that was mapped.
+    keys: [Option<Vec<u8>>; KEYS],
+    /// The page of session n is the one with index n - 1, as session numbers rise from 1.
+    pages: Vec<Page>,
+    /// The sessions of the buffered pages, oldest first.
+    buffered: VecDeque<usize>,
+    notes: [Option<Note>; WORKERS],
+    /// How many committed pages change something, and how many of them, the first ones, were
+    /// carried to the store.
+    changing: usize,
+    carried: usize,
+    /// The rows that stand in the store: one for each session carried, less the swept ones.
+    rows: usize,
+    clock: i64,
+    held: Held,
+}
+
+/// Holds the answers to the calls: what was held, or the first contradiction.
+pub fn judge(calls: &[u8], answers: &[u8]) -> Result<Held, Contradiction> {
+    let mut history = History::new();
+    let ended = answers.is_empty() || answers.ends_with(b"\n");
+    let mut answers = lines(answers);
+    let mut line = 0;
+    for call in lines(calls) {
+        line += 1;
+        let noted = match answers.next() {
+            Some(answer) => history.note(call, answer),
+            None => Err("has no answer".to_string()),
+        };
+        noted.map_err(|what| Contradiction { line, what })?;
+    }
+    if answers.next().is_some() {
+        return Err(Contradiction { line: line + 1, what: "there is an answer without a call".to_string() });
+    }
+    if !ended {
+        return Err(Contradiction { line, what: "the last answer does not end in byte 10".to_string() });
+    }
+    Ok(history.held)
+}
+
+/// The lines of a text: byte 10 ends each, or the end of the text.
+fn lines(text: &[u8]) -> impl Iterator<Item = &[u8]> {
+    let whole = text.strip_suffix(b"\n").unwrap_or(text);
+    let count = if text.is_empty() { 0 } else { usize::MAX };
+    whole.split(|&byte| byte == b'\n').take(count)
+}
+
+/// The numbers of an answer line, or none if it is a refusal.
+fn answer_numbers(answer: &[u8]) -> Result<Option<Vec<i64>>, String> {
+    let broken = || "the answer is not in the form of an answer line".to_string();
+    let columns = answer.first_chunk().ok_or_else(broken)?;
+    let refusal = call_columns(*columns).ok_or_else(broken)?;
+    let (columns, rest) = answer[CALL_COLUMNS..].as_chunks();
+    if !rest.is_empty() {
+        return Err(broken());
+    }
+    let numbers: Option<Vec<i64>> = columns.iter().map(read_number).collect();
+    let numbers = numbers.ok_or_else(broken)?;
+    if refusal == 0 {
+        return Ok(Some(numbers));
+    }
+    if refusal > Refusal::BadLine.number() || !numbers.is_empty() {
+        return Err(format!("{refusal} with {} numbers is no refusal", numbers.len()));
+    }
+    Ok(None)
+}
+
+/// Holds a number answered to the one that the history has.
+fn equal(what: &str, answered: i64, history: usize) -> Result<(), String> {
+    if answered == history as i64 {
+        Ok(())
+    } else {
+        Err(format!("{what} answered {answered}, the history has {history}"))
+    }
+}
+
+/// An argument of an accepted call was out of range.
+fn out_of_range(_: Refusal) -> String {
+    "was accepted with a number outside its range".to_string()
+}
+
+/// The words that show the places of a read in a stock.
+fn words(places: &[u8], field: impl Fn(u8) -> Field) -> Vec<i64> {
+    places.iter().flat_map(|&place| field(place).words()).map(i64::from).collect()
+}
+
+impl History {
+    fn new() -> History {
+        History {
+            stock: [Field::EMPTY; PLACES],
+            keys: [const { None }; KEYS],
+            pages: Vec::new(),
+            buffered: VecDeque::new(),
+            notes: [None; WORKERS],
+            changing: 0,
+            carried: 0,
+            rows: 0,
+            clock: 0,
+            held: Held::default(),
+        }
+    }
+
+    fn note(&mut self, call: &[u8], answer: &[u8]) -> Result<(), String> {
+        self.held.lines += 1;
+        let Some(answered) = answer_numbers(answer)? else {
+            return Ok(());
+        };
+        self.held.accepted += 1;
+        let Call { call, numbers } =
+            parse(call).map_err(|_| "was accepted though it is no call in form".to_string())?;
+        let expected = match call {
+            3 | 5 | 6 | 8..=11 | 13 => 1,
+            4 => 1 + WORDS * self.key(numbers[1])?.len(),
+            15 => 3,
+            _ => 0,
+        };
+        if answered.len() != expected {
+            return Err(format!("the answer has {} numbers, not {expected}", answered.len()));
+        }
+        match call {
+            1 => self.load(&numbers),
+            2 => self.map(&numbers),
+            3 => self.begin(answered[0]),
+            4 => self.read(numbers[0], numbers[1], answered[0], &answered[1..]),
+            5 => self.change(&numbers, answered[0]),
+            6 => self.commit(numbers[0], answered[0]),
+            7 => self.abandon(numbers[0]),
+            8 => self.advance(numbers[0], answered[0]),
+            9 => self.take(numbers[0], answered[0]),
+            10 => self.apply(numbers[0], numbers[1], answered[0]),
+            11 => self.delete(numbers[0], answered[0]),
+            12 => self.cut(numbers[0]),
+            13 => self.sweep(answered[0]),
+            15 => self.report(numbers[0], &answered),
+            _ => Ok(()),
+        }
+    }
+
+    /// The places of a mapped key.
+    fn key(&self, key: i64) -> Result<&Vec<u8>, String> {
+        let key = index(key, KEYS).map_err(out_of_range)?;
+        self.keys[key].as_ref().ok_or_else(|| format!("was accepted for key {key}, which was not mapped"))
+    }
+
+    /// The index of the page of a session that has begun and neither committed nor been abandoned.
+    fn open(&self, session: i64) -> Result<usize, String> {
+        let page = usize::try_from(session).ok().and_then(|session| session.checked_sub(1));
+        match page.and_then(|page| Some((page, self.pages.get(page)?))) {
+            Some((page, opened)) if !opened.ended => Ok(page),
+            Some(_) => Err(format!("was accepted for session {session}, which has ended")),
+            None => Err(format!("was accepted for session {session}, which has not begun")),
+        }
+    }
+
+    /// A field as the session of the page sees it: the stock followed by the changes on the page.
+    fn seen(&self, page: usize, place: u8) -> Result<Field, String> {
+        let mut field = self.stock[usize::from(place)];
+        for change in self.pages[page].changes().filter(|change| change.place == place) {
+            field.make(change.kind, change.value).map_err(|refusal| {
+                format!("an earlier change of the session would now be refused {}", refusal.number())
+            })?;
+        }
+        Ok(field)
+    }
+
+    fn load(&mut self, numbers: &[i64]) -> Result<(), String> {
+        let change = change_of(numbers[0], numbers[1], numbers[2], numbers[3]).map_err(out_of_range)?;
+        // A later load would change the place of pages that were held already.
+        if !self.pages.is_empty() {
+            return Err("load was accepted after a session had begun".to_string());
+        }
+        self.stock[usize::from(change.place)]
+            .make(change.kind, change.value)
+            .map_err(|refusal| format!("load was accepted, but meets refusal {}", refusal.number()))
+    }
+
+    fn map(&mut self, numbers: &[i64]) -> Result<(), String> {
+        let key = index(numbers[0], KEYS).map_err(out_of_range)?;
+        let count = index(numbers[1], KEY_PLACES + 1).map_err(|_| "map was accepted with a count not 1 to 4")?;
+        let mut places = Vec::new();
+        for pair in numbers[2..].chunks_exact(2).take(count) {
+            places.push(place(pair[0], pair[1]).map_err(out_of_range)?);
+        }
+        if !self.pages.is_empty() {
+            return Err("map was accepted after a session had begun".to_string());
+        }
+        if self.keys[key].is_some() || places.is_empty() {
+            return Err("map was accepted for a key mapped before or without places".to_string());
+        }
+        self.keys[key] = Some(places);
+        Ok(())
+    }
+
+    fn begin(&mut self, session: i64) -> Result<(), String> {
+        equal("begin", session, self.pages.len() + 1)?;
+        self.pages.push(Page::default());
+        self.held.pages += 1;
+        Ok(())
+    }
+
+    fn read(&mut self, session: i64, key: i64, mark: i64, shown: &[i64]) -> Result<(), String> {
+        let page = self.open(session)?;
+        let places = self.key(key)?.clone();
+        // Demand 2: a read shows all committed sessions and then the reader's own changes.
+        let fields: Result<Vec<Field>, String> = places.iter().map(|&place| self.seen(page, place)).collect();
+        let expected: Vec<i64> = fields?.iter().flat_map(Field::words).map(i64::from).collect();
+        if shown != expected {
+            return Err(format!("read showed {shown:?}, the history has {expected:?}"));
+        }
+        let own = self.pages[page].changes().any(|change| places.contains(&change.place));
+        if !(0..=2).contains(&mark) || own != (mark == 2) {
+            let has = if own { "has a" } else { "has no" };
+            return Err(format!("read marked its answer {mark}, but the session {has} change to a place of the key"));
+        }
+        self.pages[page].entries.push(Entry::Read { places, words: shown.to_vec() });
+        self.held.reads += 1;
+        Ok(())
+    }
+
+    fn change(&mut self, numbers: &[i64], count: i64) -> Result<(), String> {
+        let page = self.open(numbers[0])?;
+        let change = change_of(numbers[1], numbers[2], numbers[3], numbers[4]).map_err(out_of_range)?;
+        self.pages[page].entries.push(Entry::Change(change));
+        let changes = self.pages[page].changes().count();
+        equal("change", count, changes)?;
+        if changes > CHANGES {
+            return Err(format!("change was accepted with {CHANGES} changes on the page"));
+        }
+        Ok(())
+    }
+
+    /// Demand 3 about one page: at its place none of its changes is refused, and each of its reads
+    /// showed what it would show there.
+    fn commit(&mut self, session: i64, count: i64) -> Result<(), String> {
+        let page = self.open(session)?;
+        let entries = std::mem::take(&mut self.pages[page].entries);
+        let mut changes = 0;
+        for entry in &entries {
+            match entry {
+                Entry::Change(change) => {
+                    changes += 1;
+                    self.stock[usize::from(change.place)].make(change.kind, change.value).map_err(|refusal| {
+                        format!("change {changes} of the committed session meets refusal {} there", refusal.number())
+                    })?;
+                }
+                Entry::Read { places, words: shown } => {
+                    let expected = words(places, |place| self.stock[usize::from(place)]);
+                    if *shown != expected {
+                        return Err(format!(
+                            "a read of the committed session showed {shown:?}, there it would show {expected:?}"
+                        ));
+                    }
+                    self.held.committed_reads += 1;
+                }
+            }
+        }
+        self.pages[page].ended = true;
+        self.held.committed += 1;
+        self.held.committed_changes += changes;
+        if changes > 0 {
+            self.pages[page].order = Some(self.changing);
+            self.changing += 1;
+            self.buffered.push_back(page);
+            self.held.buffered += 1;
+        }
+        equal("commit", count, self.buffered.len())
+    }
+
+    fn abandon(&mut self, session: i64) -> Result<(), String> {
+        let page = self.open(session)?;
+        self.pages[page] = Page { ended: true, ..Page::default() };
+        Ok(())
+    }
+
+    fn advance(&mut self, ticks: i64, clock: i64) -> Result<(), String> {
+        self.clock += ticks;
+        if clock != self.clock {
+            return Err(format!("advance answered {clock}, the ticks add up to {}", self.clock));
+        }
+        Ok(())
+    }
+
+    fn take(&mut self, worker: i64, session: i64) -> Result<(), String> {
+        let worker = index(worker, WORKERS).map_err(out_of_range)?;
+        if self.notes[worker].is_some() {
+            return Err("take was accepted with a session in the worker's hand".to_string());
+        }
+        let Some(&oldest) = self.buffered.front() else {
+            return Err(format!("take answered {session}, but the history has nothing buffered"));
+        };
+        equal("take", session, oldest + 1)?;
+        self.notes[worker] = Some(Note { session: oldest, replied: false });
+        self.held.takes += 1;
+        Ok(())
+    }
+
+    /// Whether the session of the page was carried to the store.
+    fn was_carried(&self, page: usize) -> bool {
+        self.pages[page].order.is_some_and(|order| order < self.carried)
+    }
+
+    /// Notes that the session of the page is carried, if the store has room for its row.
+    fn carry(&mut self, page: usize) -> Result<(), String> {
+        if self.pages[page].order != Some(self.carried) {
+            return Err(format!("session {} was carried before an older one", page + 1));
+        }
+        self.carried += 1;
+        self.rows += 1;
+        self.held.carried += 1;
+        Ok(())
+    }
+
+    /// Each session is carried once: a first apply that reaches the store is done, each later one
+    /// done before. The row that tells them apart stays while the session is in a hand.
+    fn apply(&mut self, worker: i64, fate: i64, reply: i64) -> Result<(), String> {
+        let worker = index(worker, WORKERS).map_err(out_of_range)?;
+        let fate = index(fate, 3).map_err(out_of_range)?;
+        let Some(Note { session, replied: false }) = self.notes[worker] else {
+            return Err("apply was accepted without a session in hand that waits for its reply".to_string());
+        };
+        self.held.applies += 1;
+        let before = self.was_carried(session);
+        if fate == 0 {
+            let due = if before { DONE_BEFORE } else { DONE };
+            equal("apply", reply, usize::from(due))?;
+            if !before && self.rows >= ROWS {
+                return Err(format!("apply was done with {ROWS} rows and none of the session"));
+            }
+            self.notes[worker] = Some(Note { session, replied: true });
+        } else {
+            equal("apply without a reply", reply, usize::from(NO_WORD))?;
+        }
+        let reached = fate != 2 && self.rows < ROWS;
+        if reached && !before {
+            self.carry(session)?;
+        }
+        Ok(())
+    }
+
+    fn delete(&mut self, worker: i64, removed: i64) -> Result<(), String> {
+        let worker = index(worker, WORKERS).map_err(out_of_range)?;
+        let Some(Note { session, replied: true }) = self.notes[worker] else {
+            return Err("delete was accepted without a reply of done or done before".to_string());
+        };
+        let place = self.buffered.iter().position(|&buffered| buffered == session);
+        equal("delete", removed, usize::from(place.is_some()))?;
+        if let Some(place) = place {
+            self.buffered.remove(place);
+        }
+        self.notes[worker] = None;
+        self.held.deletes += 1;
+        Ok(())
+    }
+
+    fn cut(&mut self, worker: i64) -> Result<(), String> {
+        let worker = index(worker, WORKERS).map_err(out_of_range)?;
+        self.notes[worker] = None;
+        Ok(())
+    }
+
+    /// Which rows a sweep picks is free, so only its count can be held: at most 16, at least one if
+    /// there is one, and no row of a session that is buffered or in a hand.
+    fn sweep(&mut self, removed: i64) -> Result<(), String> {
+        let noted = self.notes.iter().flatten().map(|note| note.session);
+        let mut needed: Vec<usize> = self.buffered.iter().copied().chain(noted).collect();
+        needed.retain(|&page| self.was_carried(page));
+        needed.sort_unstable();
+        needed.dedup();
+        let free = self.rows - needed.len();
+        let most = free.min(SWEPT) as i64;
+        if !(most.min(1)..=most).contains(&removed) {
+            return Err(format!("sweep removed {removed} rows, {free} may be removed"));
+        }
+        self.rows -= removed as usize;
+        self.held.sweeps += 1;
+        self.held.swept += removed as u64;
+        Ok(())
+    }
+
+    /// A session holds exclusive what its page changes, and shared what the page reads besides.
+    fn report(&mut self, session: i64, answered: &[i64]) -> Result<(), String> {
+        let page = &self.pages[self.open(session)?];
+        let mut exclusive = 0_u64;
+        let mut shared = 0_u64;
+        for entry in &page.entries {
+            match entry {
+                Entry::Change(change) => exclusive |= 1 << change.document(),
+                Entry::Read { places, .. } => places.iter().for_each(|place| shared |= 1 << (place / 4)),
+            }
+        }
+        shared &= !exclusive;
+        equal("report of shared leases", answered[0], shared.count_ones() as usize)?;
+        equal("report of exclusive leases", answered[1], exclusive.count_ones() as usize)?;
+        equal("report of changes", answered[2], page.changes().count())?;
+        self.held.reports += 1;
+        Ok(())
+    }
+}

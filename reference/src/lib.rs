@@ -1,0 +1,11 @@
+//! A second implementation of the stock cache, written from papers 00 and 01 alone.
+
+pub mod calls;
+pub mod field;
+pub mod generator;
+pub mod history;
+pub mod lines;
+pub mod plant;
+pub mod random;
+pub mod refusal;
+pub mod serve;

@@ -1,0 +1,280 @@
+//! The judge: it holds right answers, and refuses answers that were tampered with.
+
+mod common;
+
+use common::line;
+use reference_plant::generator::{generate, Profile};
+use reference_plant::history::{judge, Held};
+use reference_plant::plant::Plant;
+use reference_plant::serve::serve;
+
+/// A dialogue of short calls and short answers as the two files.
+fn files(dialogue: &[(&str, &str)]) -> (Vec<u8>, Vec<u8>) {
+    let file = |short: &mut dyn Iterator<Item = &str>| short.map(|short| line(short) + "\n").collect::<String>();
+    let calls = file(&mut dialogue.iter().map(|(call, _)| *call));
+    let answers = file(&mut dialogue.iter().map(|(_, answer)| *answer));
+    (calls.into_bytes(), answers.into_bytes())
+}
+
+fn judged(dialogue: &[(&str, &str)]) -> Result<Held, u64> {
+    let (calls, answers) = files(dialogue);
+    judge(&calls, &answers).map_err(|contradiction| contradiction.line)
+}
+
+/// Two sessions, one read each, carried with a lost reply by two workers.
+const DIALOGUE: &[(&str, &str)] = &[
+    ("1 0 0 1 100", "0"),
+    ("2 0 2 0 0 1 0 0 0 0 0", "0"),
+    ("3", "0 1"),
+    ("3", "0 2"),
+    ("4 1 0", "0 1 1 1 100 0 0 0 0 0 0 0 0 0 0 0 0 0"),
+    ("5 1 0 0 3 -25", "0 1"),
+    ("5 1 1 0 5 7", "0 2"),
+    ("4 1 0", "0 2 1 1 75 0 0 0 0 0 2 1 7 0 0 0 0 0"),
+    ("15 1", "0 0 2 2"),
+    ("6 1", "0 1"),
+    ("4 2 0", "0 0 1 1 75 0 0 0 0 0 2 1 7 0 0 0 0 0"),
+    ("15 2", "0 2 0 0"),
+    ("6 2", "0 1"),
+    ("9 0", "0 1"),
+    ("10 0 1", "0 0"),
+    ("8 300", "0 300"),
+    ("9 1", "0 1"),
+    ("10 1 0", "0 2"),
+    ("13", "0 0"),
+    ("11 1", "0 1"),
+    ("13", "0 0"),
+    ("10 0 0", "0 2"),
+    ("11 0", "0 0"),
+    ("13", "0 1"),
+    ("9 2", "18"),
+];
+
+#[test]
+fn a_right_dialogue_is_held() {
+    let held = Held {
+        lines: 25,
+        accepted: 24,
+        pages: 2,
+        committed: 2,
+        buffered: 1,
+        reads: 3,
+        committed_reads: 3,
+        committed_changes: 2,
+        reports: 2,
+        takes: 2,
+        applies: 3,
+        carried: 1,
+        deletes: 2,
+        sweeps: 3,
+        swept: 1,
+    };
+    assert_eq!(judged(DIALOGUE), Ok(held));
+    assert_eq!(judged(&[]), Ok(Held::default()));
+}
+
+/// The dialogue with the answer of one line replaced must be refused at that line, or at a later
+/// one where the history first tells.
+#[test]
+fn a_tampered_dialogue_is_refused() {
+    for (at, answer, refused) in [
+        // A wrong session number, a number too many, a number too few.
+        (3, "0 2", 3),
+        (4, "0 1", 4),
+        (2, "0 1", 2),
+        (3, "0", 3),
+        // Reads: a wrong value, a wrong kind, a wrong mark, too few words.
+        (5, "0 1 1 1 99 0 0 0 0 0 0 0 0 0 0 0 0 0", 5),
+        (8, "0 2 1 1 100 0 0 0 0 0 2 1 7 0 0 0 0 0", 8),
+        (8, "0 1 1 1 75 0 0 0 0 0 2 1 7 0 0 0 0 0", 8),
+        (11, "0 0 1 1 100 0 0 0 0 0 0 0 0 0 0 0 0 0", 11),
+        (11, "0 2 1 1 75 0 0 0 0 0 2 1 7 0 0 0 0 0", 11),
+        (11, "0 0 1 1 75 0 0 0 0 0", 11),
+        // Counts of change, report and commit.
+        (6, "0 2", 6),
+        (7, "0 1", 7),
+        (9, "0 1 1 2", 9),
+        (9, "0 0 1 2", 9),
+        (9, "0 0 2 1", 9),
+        (12, "0 1 0 0", 12),
+        (10, "0 0", 10),
+        (13, "0 2", 13),
+        // A commit that was refused does not make the session buffered.
+        (10, "15", 11),
+        // A change that was refused is not on the page.
+        (6, "8", 7),
+        // Workers: another session, a word that cannot come, done twice, gone too soon.
+        (14, "0 2", 14),
+        (15, "0 1", 15),
+        (18, "0 1", 18),
+        (18, "0 0", 18),
+        (20, "0 0", 20),
+        (22, "0 1", 22),
+        (23, "0 1", 23),
+        (25, "0 1", 25),
+        // A row swept while the session is buffered or in a hand, or none though there is one.
+        (19, "0 1", 19),
+        (21, "0 1", 21),
+        (24, "0 0", 24),
+        (24, "0 2", 24),
+        // The clock.
+        (16, "0 299", 16),
+        // No refusals.
+        (1, "24", 1),
+        (1, "20 1", 1),
+    ] {
+        let mut dialogue = DIALOGUE.to_vec();
+        dialogue[at - 1].1 = answer;
+        assert_eq!(judged(&dialogue), Err(refused), "answer {answer} to line {at}");
+    }
+}
+
+#[test]
+fn answers_missing_or_left_over_are_refused() {
+    let (calls, answers) = files(DIALOGUE);
+    let last = answers[..answers.len() - 1].iter().rposition(|&byte| byte == b'\n').unwrap();
+    assert_eq!(judge(&calls, &answers[..=last]).unwrap_err().line, 25);
+    assert_eq!(judge(&calls, &answers[..answers.len() - 1]).unwrap_err().line, 25);
+    let more = [&answers[..], b"23\n"].concat();
+    assert_eq!(judge(&calls, &more).unwrap_err().line, 26);
+    assert_eq!(judge(&calls, b"").unwrap_err().line, 1);
+    assert_eq!(judge(b"", b"23\n").unwrap_err().line, 1);
+    // A last call without byte 10 is a line as well.
+    assert!(judge(&calls[..calls.len() - 1], &answers).is_ok());
+}
+
+/// What a program might wrongly accept.
+#[test]
+fn wrong_acceptances_are_refused() {
+    let wrong: &[&[(&str, &str)]] = &[
+        &[("16", "0")],
+        &[("1 0 0 1", "0")],
+        &[("1 64 0 1 1", "0")],
+        &[("1 0 0 1 1", "0"), ("1 0 0 4 1", "0")],
+        &[("3", "0 1"), ("1 0 0 1 1", "0")],
+        &[("3", "0 1"), ("2 0 1 0 0 0 0 0 0 0 0", "0")],
+        &[("2 0 0 0 0 0 0 0 0 0 0", "0")],
+        &[("2 0 1 0 0 0 0 0 0 0 0", "0"), ("2 0 1 0 0 0 0 0 0 0 0", "0")],
+        &[("6 1", "0 0")],
+        &[("3", "0 1"), ("6 0", "0 0")],
+        &[("3", "0 1"), ("6 1", "0 0"), ("6 1", "0 0")],
+        &[("3", "0 1"), ("7 1", "0"), ("15 1", "0 0 0 0")],
+        &[("3", "0 1"), ("4 1 0", "0 1 0 0 0 0 0 0 0 0")],
+        &[("9 0", "0 1")],
+        &[("9 4", "0 1")],
+        &[("10 0 0", "0 1")],
+        &[("10 0 2", "0 0")],
+        &[("11 0", "0 0")],
+        &[("13", "0 1")],
+    ];
+    for dialogue in wrong {
+        assert_eq!(judged(dialogue), Err(dialogue.len() as u64), "{dialogue:?}");
+    }
+}
+
+/// Two sessions that both read 100 and both draw on it: the second commit must not be accepted.
+#[test]
+fn a_lost_update_is_refused() {
+    let dialogue = [
+        ("1 0 0 1 100", "0"),
+        ("2 0 1 0 0 0 0 0 0 0 0", "0"),
+        ("3", "0 1"),
+        ("3", "0 2"),
+        ("4 1 0", "0 1 1 1 100 0 0 0 0 0"),
+        ("4 2 0", "0 0 1 1 100 0 0 0 0 0"),
+        ("5 1 0 0 1 75", "0 1"),
+        ("6 1", "0 1"),
+        ("5 2 1 0 1 1", "0 1"),
+        ("6 2", "0 2"),
+    ];
+    assert_eq!(judged(&dialogue), Err(10));
+    assert!(judged(&dialogue[..9]).is_ok());
+}
+
+/// A committed change that meets refusal 8 at its place.
+#[test]
+fn a_change_that_does_not_fit_its_place_is_refused() {
+    let dialogue = [
+        ("3", "0 1"),
+        ("3", "0 2"),
+        ("5 1 0 0 3 2147483647", "0 1"),
+        ("5 2 0 0 3 1", "0 1"),
+        ("6 1", "0 1"),
+        ("6 2", "0 2"),
+    ];
+    assert_eq!(judged(&dialogue), Err(6));
+}
+
+/// The row of a session in a slow worker's hand was swept, and its draws were made twice.
+#[test]
+fn a_second_done_is_refused() {
+    let dialogue = [
+        ("3", "0 1"),
+        ("5 1 0 0 3 -600", "0 1"),
+        ("6 1", "0 1"),
+        ("9 0", "0 1"),
+        ("10 0 1", "0 0"),
+        ("8 300", "0 300"),
+        ("9 1", "0 1"),
+        ("10 1 0", "0 2"),
+        ("11 1", "0 1"),
+        ("10 0 0", "0 1"),
+    ];
+    assert_eq!(judged(&dialogue), Err(10));
+}
+
+fn generated(seed: u64, lines: u64, profile: Profile) -> (Vec<u8>, Vec<u8>) {
+    let (mut calls, mut answers) = (Vec::new(), Vec::new());
+    generate(&mut calls, seed, lines, profile).unwrap();
+    serve(&mut Plant::new(), &calls[..], &mut answers).unwrap();
+    (calls, answers)
+}
+
+#[test]
+fn generated_files_are_held() {
+    for profile in [Profile::Mixed, Profile::Work, Profile::Storm] {
+        for seed in 1..6 {
+            let (calls, answers) = generated(seed, 5_000, profile);
+            let held = judge(&calls, &answers).unwrap_or_else(|contradiction| panic!("{seed}: {contradiction}"));
+            assert_eq!(held.lines, 5_000);
+        }
+    }
+}
+
+/// In generated files each number that the history determines is changed by one, one at a time.
+#[test]
+fn each_tampered_number_is_refused() {
+    for (seed, profile) in [(1, Profile::Work), (2, Profile::Mixed), (3, Profile::Mixed), (4, Profile::Storm)] {
+        let (calls, answers) = generated(seed, 700, profile);
+        let calls_apart: Vec<&[u8]> = calls.split(|&byte| byte == b'\n').collect();
+        let answers_apart: Vec<&[u8]> = answers.strip_suffix(b"\n").unwrap().split(|&byte| byte == b'\n').collect();
+        let mut tampered_numbers = 0;
+        for (at, answer) in answers_apart.iter().enumerate() {
+            let numbers = answer.len() / 12;
+            // Not the mark of read, nor sweep's count, of which the history knows the limits only.
+            let first = usize::from(calls_apart[at].starts_with(b" 4"));
+            if calls_apart[at].starts_with(b"13") {
+                continue;
+            }
+            for number in first..numbers {
+                let columns = 2 + 12 * number..14 + 12 * number;
+                let text = std::str::from_utf8(&answer[columns.clone()]).unwrap();
+                let value: i64 = text.trim().parse().unwrap();
+                let mut tampered = answer.to_vec();
+                tampered[columns].copy_from_slice(format!("{:>12}", value + 1).as_bytes());
+                let mut lines = answers_apart.clone();
+                lines[at] = &tampered;
+                let mut file = lines.join(&b'\n');
+                file.push(b'\n');
+                let contradiction = judge(&calls, &file).expect_err("a number was changed");
+                assert_eq!(contradiction.line, at as u64 + 1);
+                tampered_numbers += 1;
+                // Of a read, the words of the first place and one more are enough.
+                if first == 1 && number > first + 8 {
+                    break;
+                }
+            }
+        }
+        assert!(tampered_numbers > 300, "{tampered_numbers}");
+    }
+}
