@@ -1,6 +1,6 @@
 -- What change answers, one law for each way out.
 use mathlib.Core.Path.{_≡_, refl, sym, _∙_, ap}
-use mathlib.Core.Bool.{Bool, true, false, not, cond, _&&_}
+use mathlib.Core.Bool.{Bool, true, false, not, cond, _&&_, _||_}
 use mathlib.Core.Option.{Option, none, some}
 use mathlib.Core.List.{List, [], _∷_}
 use Prim.Native.Nat.{ℕ, suc, _<_, _≤_, _+_}
@@ -20,13 +20,14 @@ use Rattle.rules.specs.Changes as C
 use Rattle.rules.specs.Tables as M
 use Rattle.rules.specs.Calls.{Change, Call, Pick, refused, fine}
 use Rattle.rules.specs.Calls as A
-use Rattle.rules.specs.Reading.{seen, known}
+use Rattle.rules.specs.Reading.{seen, knownAway, known}
 use Rattle.rules.specs.Conditions.{goodPlace, goodChange, sessionAt, own, conditions}
 use Rattle.rules.specs.Step.{step, accepted}
 use Rattle.rules.proofs.Laws.{byCase, and-true, below-is, both}
 use Rattle.rules.proofs.Away.{set-meets}
 use Rattle.arguments.proofs.Numbers.{held}
-use Rattle.keys.specs.View.{viewPlace}
+use Rattle.keys.specs.View.{viewPlace, viewKeys}
+use Rattle.keys.specs.declared.Keys.{Keys}
 use Rattle.field.specs.View.{viewField, refusalOf}
 use Rattle.field.specs.declared.Field.{Field}
 use Rattle.changes.specs.View.{viewChanges, viewUpdate}
@@ -35,6 +36,15 @@ use Rattle.changes.specs.declared.Update.{Update}
 use Rattle.session.specs.View.{viewSession, viewSlot}
 use Rattle.session.specs.declared.Session.{Session}
 use Rattle.sessions.specs.View.{viewSessions}
+use Rattle.sessions.specs.declared.Sessions.{Sessions}
+use Rattle.store.specs.View.{viewStore}
+use Rattle.store.specs.declared.Store.{Store}
+use Rattle.rows.specs.View.{viewRows}
+use Rattle.rows.specs.declared.Rows.{Rows}
+use Rattle.buffer.specs.View.{viewBuffer}
+use Rattle.buffer.specs.declared.Buffer.{Buffer}
+use Rattle.cache.specs.View.{viewCache}
+use Rattle.cache.specs.declared.Cache.{Cache}
 use Rattle.plant.specs.View.{viewPlant, keptPlant}
 use Rattle.plant.specs.declared.Plant.{Plant}
 use Rattle.answers.specs.View.{viewAnswer, viewRefusal}
@@ -44,7 +54,8 @@ use Rattle.promises.specs.Promise.{chosen, result}
 use Rattle.promises.proofs.Telling.{refuses, accepts}
 use Rattle.requests.specs.View.{refusalAt}
 use Rattle.ending.proofs.Standing.{has-slot, its-session, its-number}
-use Rattle.seeing.specs.Value.{value}
+use Rattle.seeing.specs.Value.{valueBy, value}
+use Rattle.seeing.specs.Sight.{sight}
 use Rattle.seeing.proofs.Laws.{value-seen}
 use Rattle.change.specs.Met.{told, laterConditions, laterAnswer}
 
@@ -71,32 +82,37 @@ first-one : (o : Option Refusal) → first (o ∷ []) ≡ o
 first-one none = refl
 first-one (some r) = refl
 
-module _ (p : Plant) (n : ℕ) (own : Changes) (c : Update) (m : ℕ) (em : m ≡ length (viewChanges own)) where
+module _ (near : Bool) (store : Store) (keys : Keys) (cache : Cache) (sessions : Sessions) (buffer : Buffer) (rows : Rows) (n : ℕ) (own : Changes) (c : Update) (m : ℕ) (em : m ≡ length (viewChanges own)) where
   abbrev Later : A.Answer → Type 0
-  Later a = a ≡ laterAnswer (viewPlant p) n (viewChanges own) (viewUpdate c)
+  Later a = a ≡ laterAnswer (sight near store keys cache sessions buffer rows) n (viewChanges own) (viewUpdate c)
 
   pub is-full : changeLimit ≤ m → Later (refused changesFull)
   unfolding laterAnswer _⇒_
   is-full h = rw (sym em, le-leb changeLimit m h) refl
 
-  module _ (h : m < changeLimit) (x : Bool) (ex : x ≡ M.othersExclusive n (c .place .document) (viewSessions (p .sessions))) where
+  module _ (h : m < changeLimit) (x : Bool) (ex : x ≡ M.othersExclusive n (c .place .document) (viewSessions sessions)) where
     pub is-elsewhere : x ≡ true → Later (refused exclusiveElsewhere)
-    unfolding laterAnswer viewPlant viewUpdate viewPlace _⇒_
+    unfolding laterAnswer sight viewUpdate viewPlace _⇒_
     is-elsewhere g = rw (sym em, lt-leb changeLimit m h, sym ex, g) refl
 
-    module _ (g : x ≡ false) (u : Bool) (eu : u ≡ not (isSet (kindOf (c .kind))) && not (known (viewPlant p) (viewChanges own) (viewPlace (c .place)))) where
+    module _ (g : x ≡ false) (u : Bool) (eu : u ≡ not (isSet (kindOf (c .kind))) && not (near || knownAway (viewKeys keys) (viewCache cache) (viewBuffer buffer) (viewChanges own) (viewPlace (c .place)))) where
       pub is-away : u ≡ true → Later (refused storeAway)
-      unfolding laterAnswer viewPlant viewUpdate viewPlace _⇒_
+      unfolding laterAnswer sight viewUpdate viewPlace _⇒_
       is-away i = rw (sym em, lt-leb changeLimit m h, sym ex, g, sym eu, i) refl
 
-      pub is-met : u ≡ false → (f : Field) → viewField f ≡ value (viewPlant p) (viewChanges own) (viewPlace (c .place)) → (r : A.Answer) → r ≡ told (meets (viewUpdate c) (viewField f)) (m + 1) → Later r
-      unfolding laterAnswer viewPlant viewUpdate viewPlace _⇒_
+      pub is-met : u ≡ false → (f : Field) → viewField f ≡ valueBy near (viewStore store) (viewKeys keys) (viewCache cache) (viewBuffer buffer) (viewRows rows) (viewChanges own) (viewPlace (c .place)) → (r : A.Answer) → r ≡ told (meets (viewUpdate c) (viewField f)) (m + 1) → Later r
+      unfolding laterAnswer sight viewUpdate viewPlace _⇒_
       is-met i f ef r er =
           er
           ∙ rw (sym em, lt-leb changeLimit m h, sym ex, g, sym eu, i, ef, add-one m)
-          (ap (λ o. told o (suc m)) (sym (first-one (meets (viewUpdate c) (value (viewPlant p) (viewChanges own) (viewPlace (c .place)))))))
+          (ap (λ o. told o (suc m)) (sym (first-one (meets (viewUpdate c) (valueBy near (viewStore store) (viewKeys keys) (viewCache cache) (viewBuffer buffer) (viewRows rows) (viewChanges own) (viewPlace (c .place)))))))
 
 -- ── the whole answer ──
+-- the tables looked at are the plant's
+same-answer : (p : Plant) (n : ℕ) (own : List C.Update) (c : C.Update) → laterAnswer (sight (p .near) (p .store) (p .keys) (p .cache) (p .sessions) (p .buffer) (p .rows)) n own c ≡ laterAnswer (viewPlant p) n own c
+unfolding laterAnswer sight viewPlant
+same-answer p n own c = refl
+
 first-under : (x y : Option Refusal) (s t : List (Option Refusal)) → first s ≡ first t → first (x ∷ y ∷ s) ≡ first (x ∷ y ∷ t)
 first-under none none s t e = e
 first-under none (some r) s t e = refl
@@ -173,10 +189,11 @@ module _ (p : Plant) (z d f k v : ℤ) (fd : SFits w64 d) (ff : SFits w64 f) (fk
             let y = and-true (below d documentCount) (below f fieldCount) (x .0) in
             both _ _ (lt-ltb (natOf d) documentCount (below-is d documentCount (y .0))) (lt-ltb (natOf f) fieldCount (below-is f fieldCount (y .1)))
 
-        pub meeting : b ≡ false → (r : Answer) → viewAnswer r ≡ laterAnswer (viewPlant p) n (viewChanges (s .changes)) (viewUpdate c) → Answered (viewAnswer r)
+        pub meeting : b ≡ false → (r : Answer) → viewAnswer r ≡ laterAnswer (sight (p .near) (p .store) (p .keys) (p .cache) (p .sessions) (p .buffer) (p .rows)) n (viewChanges (s .changes)) (viewUpdate c) → Answered (viewAnswer r)
         unfolding conditions viewPlant _⇒_ accepted laterAnswer
         meeting i r er =
             er
+            ∙ same-answer p n (viewChanges (s .changes)) (viewUpdate c)
             ∙ told-is (Change z d f k v) lent (chosen (viewPlant p)) (viewPlant p) (suc (length (viewChanges (s .changes)))) (rw own-is refl)
             (first (laterConditions (viewPlant p) n (viewChanges (s .changes)) (viewUpdate c)))
             (rw (good, slot, g, doomed, i, own-is, its-number p kept z fz n e t et g, update-is good)

@@ -15,103 +15,91 @@ use Rattle.rules.specs.Reading.{seenAway}
 use Rattle.rules.specs.Calls as C
 use Rattle.rules.specs.Effects.{touched, evicted, mark}
 use Rattle.keys.specs.View.{viewKey, viewKeys}
+use Rattle.keys.specs.declared.Keys.{Keys}
 use Rattle.keys.specs.declared.Key.{Key}
 use Rattle.changes.specs.View.{viewChanges}
 use Rattle.session.specs.View.{viewSession}
 use Rattle.session.specs.declared.Session.{Session}
 use Rattle.sessions.specs.View.{viewSessions}
+use Rattle.sessions.specs.declared.Sessions.{Sessions}
 use Rattle.cached.specs.View.{viewCached}
-use Rattle.cached.specs.Form.{cachedForm}
 use Rattle.cached.specs.declared.Cached.{Cached}
 use Rattle.cache.specs.View.{viewCache}
-use Rattle.cache.specs.Form.{cacheForm}
 use Rattle.cache.specs.declared.Cache.{Cache}
-use Rattle.store.specs.View.{viewStore, storeForm}
+use Rattle.store.specs.View.{viewStore}
+use Rattle.store.specs.declared.Store.{Store}
 use Rattle.rows.specs.View.{viewRows}
+use Rattle.rows.specs.declared.Rows.{Rows}
 use Rattle.buffer.specs.View.{viewBuffer}
-use Rattle.plant.specs.View.{viewPlant, plantForm}
-use Rattle.plant.specs.declared.Plant.{Plant}
-use Rattle.plant.proofs.Formed.{form-parts}
+use Rattle.buffer.specs.declared.Buffer.{Buffer}
 use Rattle.showing.specs.Shown.{cachedAt}
-use Rattle.seeing.specs.Value.{value}
+use Rattle.seeing.specs.Value.{valueBy, value}
+use Rattle.seeing.specs.Sight.{sight}
 use Rattle.marking.specs.Fields.{workedFields, byMark, shownFields, cacheNow}
 
 -- ── worked out ──
-module _ (p : Plant) (own : List Update) (qs : List S.Place) (k : ℕ) where
-  abbrev near : S.Stock → S.Stock
-  near s = follow (follow s (changesIn (pending (viewRows (p .rows)) (viewBuffer (p .buffer))))) own
+module _ (near : Bool) (store : S.Stock) (keys : ℕ → List S.Place) (cache : List M.Cached) (buffer : List M.Batch) (rows : List ℕ) (own : List Update) (qs : List S.Place) (k : ℕ) where
+  pub worked-near : (t r : Cached) → near ≡ true → viewCached t ≡ record { key = k; fields = map store qs }
+      → ((s : S.Stock) → viewCached t .fields ≡ map s qs → viewCached r ≡ record { key = k; fields = map (follow (follow s (changesIn (pending rows buffer))) own) qs })
+      → viewCached r ≡ record { key = k; fields = map (valueBy near store keys cache buffer rows own) qs }
+  worked-near t r h et e = e store (ap (λ (x : M.Cached). x .fields) et) ∙ rw h refl
 
-  abbrev away : S.Stock
-  away = seenAway (viewKeys (p .keys)) (viewCache (p .cache)) (viewBuffer (p .buffer)) own
-
-  chosen : (fs : List S.Field) → map (λ q. cond (p .near) (near (viewStore (p .store)) q) (away q)) qs ≡ fs → _≡_ {A = M.Cached} (record { key = k; fields = fs }) (record { key = k; fields = map (value (viewPlant p) own) qs })
-  unfolding viewPlant
-  chosen fs e = ap (λ (x : List S.Field). record { key = k; fields = x }) (sym e)
-
-  pub worked-near : (t r : Cached) → p .near ≡ true → viewCached t ≡ record { key = k; fields = map (viewStore (p .store)) qs }
-      → ((s : S.Stock) → viewCached t .fields ≡ map s qs → viewCached r ≡ record { key = k; fields = map (near s) qs }) → viewCached r ≡ record { key = k; fields = map (value (viewPlant p) own) qs }
-  worked-near t r h et e = e (viewStore (p .store)) (ap (λ (x : M.Cached). x .fields) et) ∙ chosen (map (near (viewStore (p .store))) qs) (rw h refl)
-
-  pub worked-away : (r : Cached) → p .near ≡ false → viewCached r ≡ record { key = k; fields = map away qs } → viewCached r ≡ record { key = k; fields = map (value (viewPlant p) own) qs }
-  worked-away r h e = e ∙ chosen (map away qs) (rw h refl)
-
-pub near-form : (p : Plant) (t r : Cached) → (storeForm (p .store) ≡ true → cachedForm t ≡ true) → (cachedForm t ≡ true → cachedForm r ≡ true) → plantForm p ≡ true → cachedForm r ≡ true
-near-form p t r g h f = h (g (form-parts p f .store))
-
-pub away-form : (p : Plant) (r : Cached) → (cacheForm (p .cache) ≡ true → cachedForm r ≡ true) → plantForm p ≡ true → cachedForm r ≡ true
-away-form p r g f = g (form-parts p f .cache)
+  pub worked-away : (r : Cached) → near ≡ false → viewCached r ≡ record { key = k; fields = map (seenAway keys cache buffer own) qs }
+      → viewCached r ≡ record { key = k; fields = map (valueBy near store keys cache buffer rows own) qs }
+  worked-away r h e = e ∙ rw h refl
 
 -- ── shown and cached, by the mark ──
-module _ (p : Plant) (n k : ℕ) (s : Session) (es : viewSession s ≡ M.session n (viewSessions (p .sessions))) (key : Key) (ek : viewKey key ≡ viewKeys (p .keys) k)
+module _ (near : Bool) (store : Store) (keys : Keys) (cache : Cache) (sessions : Sessions) (buffer : Buffer) (rows : Rows) (n k : ℕ)
+    (s : Session) (es : viewSession s ≡ M.session n (viewSessions sessions)) (key : Key) (ek : viewKey key ≡ viewKeys keys k)
     (t : Bool) (et : t ≡ touched (viewChanges (s .changes)) (viewKey key)) where
-  own-is : M.session n (viewSessions (p .sessions)) .changes ≡ viewChanges (s .changes)
+  abbrev p : M.Plant
+  p = sight near store keys cache sessions buffer rows
+
+  own-is : M.session n (viewSessions sessions) .changes ≡ viewChanges (s .changes)
   unfolding viewSession
   own-is = ap (λ (x : M.Session). x .changes) (sym es)
 
-  pub marks-own : t ≡ true → C.ownChange ≡ mark n k (viewPlant p)
-  unfolding viewPlant
+  pub marks-own : t ≡ true → C.ownChange ≡ mark n k p
+  unfolding sight
   marks-own h = rw (own-is, sym ek, sym et, h) refl
 
-  worked-is : (r : Cached) → viewCached r ≡ record { key = k; fields = map (value (viewPlant p) (viewChanges (s .changes))) (viewKey key) } → viewCached r .fields ≡ workedFields n k (viewPlant p)
-  unfolding viewPlant
-  worked-is r e = ap (λ (x : M.Cached). x .fields) e ∙ ap₂ (λ own qs. map (value (viewPlant p) own) qs) (sym own-is) ek
+  worked-is : (r : Cached) → viewCached r ≡ record { key = k; fields = map (valueBy near (viewStore store) (viewKeys keys) (viewCache cache) (viewBuffer buffer) (viewRows rows) (viewChanges (s .changes))) (viewKey key) } → viewCached r .fields ≡ workedFields n k p
+  unfolding sight
+  worked-is r e = ap (λ (x : M.Cached). x .fields) e ∙ ap₂ (λ own qs. map (value p own) qs) (sym own-is) ek
 
-  pub shows-own : (r : Cached) → t ≡ true → viewCached r ≡ record { key = k; fields = map (value (viewPlant p) (viewChanges (s .changes))) (viewKey key) } → viewCached r .fields ≡ shownFields n k (viewPlant p)
+  pub shows-own : (r : Cached) → t ≡ true → viewCached r ≡ record { key = k; fields = map (valueBy near (viewStore store) (viewKeys keys) (viewCache cache) (viewBuffer buffer) (viewRows rows) (viewChanges (s .changes))) (viewKey key) } → viewCached r .fields ≡ shownFields n k p
   unfolding shownFields
-  shows-own r h e = worked-is r e ∙ ap (λ m. byMark m n k (viewPlant p)) (marks-own h)
+  shows-own r h e = worked-is r e ∙ ap (λ m. byMark m n k p) (marks-own h)
 
-  pub caches-none : t ≡ true → viewCache (p .cache) ≡ cacheNow n k (viewPlant p)
-  unfolding cacheNow viewPlant
+  pub caches-none : t ≡ true → viewCache cache ≡ cacheNow n k p
+  unfolding cacheNow sight
   caches-none h = rw (own-is, sym ek, sym et, h) refl
 
-  module _ (h : t ≡ false) (b : Bool) (eb : b ≡ M.isCached k (viewCache (p .cache))) where
-    pub marks-cached : b ≡ true → C.fromCache ≡ mark n k (viewPlant p)
-    unfolding viewPlant
+  module _ (h : t ≡ false) (b : Bool) (eb : b ≡ M.isCached k (viewCache cache)) where
+    pub marks-cached : b ≡ true → C.fromCache ≡ mark n k p
+    unfolding sight
     marks-cached g = rw (own-is, sym ek, sym et, h, sym eb, g) refl
 
-    pub shows-cached : (r : Cached) → b ≡ true → viewCached r ≡ cachedAt k (viewCache (p .cache)) → viewCached r .fields ≡ shownFields n k (viewPlant p)
-    unfolding shownFields viewPlant
+    pub shows-cached : (r : Cached) → b ≡ true → viewCached r ≡ cachedAt k (viewCache cache) → viewCached r .fields ≡ shownFields n k p
+    unfolding shownFields sight
     shows-cached r g e = ap (λ (x : M.Cached). x .fields) e ∙ rw (own-is, sym ek, sym et, h, sym eb, g) refl
 
-    pub caches-same : b ≡ true → viewCache (p .cache) ≡ cacheNow n k (viewPlant p)
-    unfolding cacheNow viewPlant
+    pub caches-same : b ≡ true → viewCache cache ≡ cacheNow n k p
+    unfolding cacheNow sight
     caches-same g = rw (own-is, sym ek, sym et, h, sym eb, g) refl
 
-    pub marks-now : b ≡ false → C.cachedNow ≡ mark n k (viewPlant p)
-    unfolding viewPlant
+    pub marks-now : b ≡ false → C.cachedNow ≡ mark n k p
+    unfolding sight
     marks-now g = rw (own-is, sym ek, sym et, h, sym eb, g) refl
 
-    pub shows-now : (r : Cached) → b ≡ false → viewCached r ≡ record { key = k; fields = map (value (viewPlant p) (viewChanges (s .changes))) (viewKey key) } → viewCached r .fields ≡ shownFields n k (viewPlant p)
+    pub shows-now : (r : Cached) → b ≡ false → viewCached r ≡ record { key = k; fields = map (valueBy near (viewStore store) (viewKeys keys) (viewCache cache) (viewBuffer buffer) (viewRows rows) (viewChanges (s .changes))) (viewKey key) } → viewCached r .fields ≡ shownFields n k p
     unfolding shownFields
-    shows-now r g e = worked-is r e ∙ ap (λ m. byMark m n k (viewPlant p)) (marks-now g)
+    shows-now r g e = worked-is r e ∙ ap (λ m. byMark m n k p) (marks-now g)
 
-    pub caches-one : (c : Cached) (room r : Cache) → b ≡ false → viewCached c ≡ record { key = k; fields = map (value (viewPlant p) (viewChanges (s .changes))) (viewKey key) }
-        → viewCache room ≡ evicted 0 (viewCache (p .cache)) → viewCache r ≡ pushed cacheLimit (viewCache room) (viewCached c) → viewCache r ≡ cacheNow n k (viewPlant p)
-    unfolding cacheNow viewPlant
+    pub caches-one : (c : Cached) (room r : Cache) → b ≡ false → viewCached c ≡ record { key = k; fields = map (valueBy near (viewStore store) (viewKeys keys) (viewCache cache) (viewBuffer buffer) (viewRows rows) (viewChanges (s .changes))) (viewKey key) }
+        → viewCache room ≡ evicted 0 (viewCache cache) → viewCache r ≡ pushed cacheLimit (viewCache room) (viewCached c) → viewCache r ≡ cacheNow n k p
+    unfolding cacheNow sight
     caches-one c room r g ec er e = e ∙ rw (ec, er, own-is, sym ek, sym et, h, sym eb, g) refl
-
-pub cache-form : (p : Plant) → plantForm p ≡ true → cacheForm (p .cache) ≡ true
-cache-form p f = form-parts p f .cache
 
 -- ── room for one more ──
 module _ (c : Cache) (m : ℕ) (e : m ≡ length (viewCache c)) where

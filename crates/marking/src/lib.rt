@@ -1,25 +1,32 @@
-// What a read shows, with its mark, and what it caches: at the numbers of a session and a key, for every plant.
+// What a read shows, with its mark, and what it caches: at the numbers of a session and a key, for all tables.
 ghost use mathlib.Core.Path.{_≡_};
 ghost use mathlib.Core.Bool.{true};
 ghost use mathlib.Core.List.{map};
 ghost use Rattle.rules.specs.Effects.{evicted};
 ghost use Rattle.rules.specs.Effects as E;
-ghost use Rattle.keys.specs.View.{viewKey};
+ghost use Rattle.keys.specs.View.{viewKey, viewKeys};
 ghost use Rattle.changes.specs.View.{viewChanges};
+ghost use Rattle.store.specs.View.{viewStore, storeForm};
+ghost use Rattle.rows.specs.View.{viewRows};
+ghost use Rattle.buffer.specs.View.{viewBuffer};
 ghost use Rattle.cached.specs.View.{viewCached};
 ghost use Rattle.cached.specs.Form.{cachedForm};
 ghost use Rattle.cache.specs.View.{viewCache};
 ghost use Rattle.cache.specs.Form.{cacheForm};
-ghost use Rattle.plant.specs.View.{viewPlant, plantForm};
 ghost use Rattle.answers.specs.View.{viewMark};
-ghost use Rattle.seeing.specs.Value.{value};
+ghost use Rattle.seeing.specs.Value.{valueBy};
+ghost use Rattle.seeing.specs.Sight.{sight};
 ghost use Rattle.marking.specs.Fields.{shownFields, cacheNow};
 use answers::Mark;
+use buffer::Buffer;
 use cache::Cache;
 use cached::Cached;
 use changes::Changes;
 use keys::Key;
-use plant::Plant;
+use keys::Keys;
+use rows::Rows;
+use sessions::Sessions;
+use store::Store;
 
 // What a read shows, and where it comes from.
 pub struct Marked {
@@ -28,40 +35,65 @@ pub struct Marked {
 }
 
 // The fields of the key's places, worked out: without a look at the store where it is away.
-fn worked(p: Plant, own: Changes, key: Key, k: u8) -> Cached
-    ensures shows { λ r. ⌜ viewCached r ≡ record { key = k; fields = map (value (viewPlant p) (viewChanges own)) (viewKey key) } ⌝ }
-    ensures form { λ r. ⌜ (plantForm p ≡ true → cachedForm r ≡ true) ⌝ }
+fn worked(
+    near: bool,
+    store: Store,
+    keys: Keys,
+    cache: Cache,
+    buffer: Buffer,
+    rows: Rows,
+    own: Changes,
+    key: Key,
+    k: u8,
+) -> Cached
+    ensures shows { λ r. ⌜ viewCached r ≡ record { key = k; fields = map (valueBy near (viewStore store) (viewKeys keys) (viewCache cache) (viewBuffer buffer) (viewRows rows) (viewChanges own)) (viewKey key) } ⌝ }
+    ensures form { λ r. ⌜ (storeForm store ≡ true → cacheForm cache ≡ true → cachedForm r ≡ true) ⌝ }
 {
-    if p.near {
-        let stored = showing::stored(p.store, key, k);
-        return showing::near(stored, p.rows, p.buffer, own, key, k);
+    if near {
+        let stored = showing::stored(store, key, k);
+        return showing::near(stored, rows, buffer, own, key, k);
     }
-    showing::away(p.keys, p.cache, p.buffer, own, key, k)
+    showing::away(keys, cache, buffer, own, key, k)
 }
 
 // With a change of the session's own at a place they are worked out, else the cached ones are shown where there are any.
-pub fn shown(p: Plant, n: u32, k: u8) -> Marked
-    ensures mark { λ r. ⌜ viewMark (r .mark) ≡ E.mark n k (viewPlant p) ⌝ }
-    ensures fields { λ r. ⌜ viewCached (r .fields) .fields ≡ shownFields n k (viewPlant p) ⌝ }
+pub fn shown(
+    near: bool,
+    store: Store,
+    keys: Keys,
+    cache: Cache,
+    sessions: Sessions,
+    buffer: Buffer,
+    rows: Rows,
+    n: u32,
+    k: u8,
+) -> Marked
+    ensures mark { λ r. ⌜ viewMark (r .mark) ≡ E.mark n k (sight near store keys cache sessions buffer rows) ⌝ }
+    ensures fields { λ r. ⌜ viewCached (r .fields) .fields ≡ shownFields n k (sight near store keys cache sessions buffer rows) ⌝ }
 {
-    let s = p.sessions.session(n);
+    let s = sessions.session(n);
     let own = s.changes;
-    let key = p.keys.key(k);
-    if asking::touched(own, key) {
+    let key = keys.key(k);
+    let touched = asking::touched(own, key);
+    if !touched {
+        if cache.has(k) {
+            let fields = showing::found(cache, k);
+            return Marked {
+                mark: Mark::FromCache,
+                fields,
+            };
+        }
+    }
+    let fields = worked(near, store, keys, cache, buffer, rows, own, key, k);
+    if touched {
         return Marked {
             mark: Mark::OwnChange,
-            fields: worked(p, own, key, k),
-        };
-    }
-    if p.cache.has(k) {
-        return Marked {
-            mark: Mark::FromCache,
-            fields: showing::found(p.cache, k),
+            fields,
         };
     }
     Marked {
         mark: Mark::CachedNow,
-        fields: worked(p, own, key, k),
+        fields,
     }
 }
 
@@ -77,19 +109,29 @@ fn with_room(cache: Cache) -> Cache
 }
 
 // The key is cached if it was not, and no change of the session's own is at a place.
-pub fn cached(p: Plant, n: u32, k: u8) -> Cache
-    ensures shows { λ r. ⌜ viewCache r ≡ cacheNow n k (viewPlant p) ⌝ }
-    ensures form { λ r. ⌜ (plantForm p ≡ true → cacheForm r ≡ true) ⌝ }
+pub fn cached(
+    near: bool,
+    store: Store,
+    keys: Keys,
+    cache: Cache,
+    sessions: Sessions,
+    buffer: Buffer,
+    rows: Rows,
+    n: u32,
+    k: u8,
+) -> Cache
+    ensures shows { λ r. ⌜ viewCache r ≡ cacheNow n k (sight near store keys cache sessions buffer rows) ⌝ }
+    ensures form { λ r. ⌜ (storeForm store ≡ true → cacheForm cache ≡ true → cacheForm r ≡ true) ⌝ }
 {
-    let s = p.sessions.session(n);
+    let s = sessions.session(n);
     let changes = s.changes;
-    let key = p.keys.key(k);
+    let key = keys.key(k);
     if asking::touched(changes, key) {
-        return p.cache;
+        return cache;
     }
-    if p.cache.has(k) {
-        return p.cache;
+    if cache.has(k) {
+        return cache;
     }
-    let c = worked(p, changes, key, k);
-    with_room(p.cache).push(c)
+    let c = worked(near, store, keys, cache, buffer, rows, changes, key, k);
+    with_room(cache).push(c)
 }

@@ -32,6 +32,7 @@ use Rattle.session.proofs.Granting.{shared-kept}
 use Rattle.sessions.specs.View.{viewSessions}
 use Rattle.sessions.specs.Form.{sessionsForm}
 use Rattle.sessions.specs.declared.Sessions.{Sessions}
+use Rattle.store.specs.View.{storeForm}
 use Rattle.cached.specs.View.{viewCached}
 use Rattle.cached.specs.declared.Cached.{Cached}
 use Rattle.cache.specs.View.{viewCache}
@@ -48,9 +49,36 @@ use Rattle.promises.specs.Promise.{chosen, result, Answers, Performs}
 use Rattle.promises.proofs.Telling.{none-held, left-accepted}
 use Rattle.showing.specs.Shown.{shownIn}
 use Rattle.turning.specs.Told.{told}
-use Rattle.marking.specs.Fields.{ownOf, shownFields, cacheNow}
+use Rattle.seeing.specs.Sight.{sight, sightAway}
+use Rattle.marking.specs.Fields.{ownOf, byMark, shownFields, cacheNow}
 use Rattle.marking.proofs.Kept.{shown-is, cache-is}
 use Rattle.read.proofs.Named.{named}
+
+-- ── the tables looked at are the plant's ──
+module _ (p : Plant) (n k : ℕ) where
+  abbrev looked : M.Plant
+  looked = sight (p .near) (p .store) (p .keys) (p .cache) (p .sessions) (p .buffer) (p .rows)
+
+  same-conditions : (lent : List ℤ) → conditions (Read (pos n) (pos k)) lent (sightAway (p .near) (p .keys) (p .cache) (p .sessions) (p .buffer)) ≡ conditions (Read (pos n) (pos k)) lent (viewPlant p)
+  unfolding conditions sightAway viewPlant
+  same-conditions lent = refl
+
+  same-mark : mark n k looked ≡ mark n k (viewPlant p)
+  unfolding sight viewPlant
+  same-mark = refl
+
+  same-fields : shownFields n k looked ≡ shownFields n k (viewPlant p)
+  unfolding shownFields sight viewPlant
+  same-fields = go (mark n k (viewPlant p))
+    where
+      go : (m : C.Mark) → byMark m n k looked ≡ byMark m n k (viewPlant p)
+      go C.fromCache = refl
+      go C.cachedNow = refl
+      go C.ownChange = refl
+
+  same-cache : cacheNow n k looked ≡ cacheNow n k (viewPlant p)
+  unfolding cacheNow sight viewPlant
+  same-cache = refl
 
 -- ── what a refusal, or none, says of the step ──
 told-refused : (o : Option Refusal) (c : Call) (lent : List ℤ) (pick : Pick) (p : M.Plant) → isRefused (told o) ≡ true → (told o ≡ settle o c lent pick p .answer) × (lent ≡ settle o c lent pick p .words)
@@ -89,17 +117,20 @@ module _ (p : Plant) (h : keptPlant p ≡ true) (n k : ℕ) (lent : List ℤ) (m
 -- ── the answer and the words ──
 module _ (p : Plant) (z : ℤ) (fz : SFits w64 z) (n : ℕ) (en : n ≡ cond (below (held z) (suc lastSession)) (natOf (held z)) 0)
     (y : ℤ) (fy : SFits w64 y) (k : ℕ) (ek : k ≡ cond (below (held y) keyCount) (natOf (held y)) keyCount)
-    (lent : List ℤ) (a : Answer) (ea : (words : List ℤ) → length lent ≡ length words → viewAnswer a ≡ told (first (conditions (Read (pos n) (pos k)) words (viewPlant p))))
+    (lent : List ℤ) (a : Answer) (ea : (words : List ℤ) → length lent ≡ length words → viewAnswer a ≡ told (first (conditions (Read (pos n) (pos k)) words (sightAway (p .near) (p .keys) (p .cache) (p .sessions) (p .buffer)))))
     (r : Bool) (er : r ≡ isRefused (viewAnswer a)) where
+  as-told : viewAnswer a ≡ told (first (conditions (Read (pos n) (pos k)) lent (viewPlant p)))
+  as-told = ea lent refl ∙ ap (λ l. told (first l)) (same-conditions p n k lent)
+
   is-told : isRefused (told (first (conditions (Read (pos n) (pos k)) lent (viewPlant p)))) ≡ r
-  is-told = ap isRefused (sym (ea lent refl)) ∙ sym er
+  is-told = ap isRefused (sym as-told) ∙ sym er
 
   module _ (t : r ≡ true) where
     turned : (viewAnswer a ≡ result (Read (pos n) (pos k)) lent p .answer) × (lent ≡ result (Read (pos n) (pos k)) lent p .words)
     unfolding step
     turned =
         let s = told-refused (first (conditions (Read (pos n) (pos k)) lent (viewPlant p))) (Read (pos n) (pos k)) lent (chosen (viewPlant p)) (viewPlant p) (is-told ∙ t) in
-        (ea lent refl ∙ s .0, s .1)
+        (as-told ∙ s .0, s .1)
 
     pub turned-away : Answers (Read z y) lent p a
     turned-away h = turned .0 ∙ ap (λ (x : C.Result). x .answer) (sym (named p z fz n en y fy k ek h lent))
@@ -114,17 +145,17 @@ module _ (p : Plant) (z : ℤ) (fz : SFits w64 z) (n : ℕ) (en : n ≡ cond (be
     reads : keptPlant p ≡ true → accepted (Read (pos n) (pos k)) lent (chosen (viewPlant p)) (viewPlant p) ≡ result (Read z y) lent p
     reads h = sym (named p z fz n en y fy k ek h lent ∙ step-fine (Read (pos n) (pos k)) lent (chosen (viewPlant p)) (viewPlant p) none-meets)
 
-    pub marked : (m : Mark) → viewMark m ≡ mark n k (viewPlant p) → keptPlant p ≡ true → fine (markNumber (viewMark m) ∷ []) ≡ result (Read z y) lent p .answer
+    pub marked : (m : Mark) → viewMark m ≡ mark n k (looked p n k) → keptPlant p ≡ true → fine (markNumber (viewMark m) ∷ []) ≡ result (Read z y) lent p .answer
     unfolding accepted
-    marked m e h = ap (λ (x : C.Mark). fine (markNumber x ∷ [])) e ∙ ap (λ (x : C.Result). x .answer) (reads h)
+    marked m e h = ap (λ (x : C.Mark). fine (markNumber x ∷ [])) (e ∙ same-mark p n k) ∙ ap (λ (x : C.Result). x .answer) (reads h)
 
-    pub filled : (c : Cached) (ws : List ℤ) → viewCached c .fields ≡ shownFields n k (viewPlant p) → ws ≡ shownIn (viewCached c .fields) lent → keptPlant p ≡ true → ws ≡ result (Read z y) lent p .words
-    filled c ws e w h = w ∙ words-are p h n k lent none-meets (viewCached c .fields) e ∙ ap (λ (x : C.Result). x .words) (reads h)
+    pub filled : (c : Cached) (ws : List ℤ) → viewCached c .fields ≡ shownFields n k (looked p n k) → ws ≡ shownIn (viewCached c .fields) lent → keptPlant p ≡ true → ws ≡ result (Read z y) lent p .words
+    filled c ws e w h = w ∙ words-are p h n k lent none-meets (viewCached c .fields) (e ∙ same-fields p n k) ∙ ap (λ (x : C.Result). x .words) (reads h)
 
 -- ── the plant left ──
 module _ (p : Plant) (z : ℤ) (fz : SFits w64 z) (y : ℤ) (fy : SFits w64 y)
     (n : ℕ) (en : n ≡ cond (below (held z) (suc lastSession)) (natOf (held z)) 0) (k : ℕ) (ek : k ≡ cond (below (held y) keyCount) (natOf (held y)) keyCount)
-    (c : Cache) (ec : viewCache c ≡ cacheNow n k (viewPlant p)) (key : Key) (eq : viewKey key ≡ viewKeys (p .keys) k)
+    (c : Cache) (ec : viewCache c ≡ cacheNow n k (looked p n k)) (key : Key) (eq : viewKey key ≡ viewKeys (p .keys) k)
     (s : Sessions) (es : viewSessions s ≡ M.each (onlyAt n (withSharedAt (p .clock) (within (viewKey key)))) (viewSessions (p .sessions))) where
   abbrev left : Plant
   left = record { store = p .store; keys = p .keys; cache = c; sessions = s; buffer = p .buffer; rows = p .rows; hands = p .hands; queue = p .queue; clock = p .clock; near = p .near; next = p .next }
@@ -141,11 +172,11 @@ module _ (p : Plant) (z : ℤ) (fz : SFits w64 z) (y : ℤ) (fy : SFits w64 y)
   leaves h lent i =
       let e = named p z fz n en y fy k ek h lent in
       let m = none-held (Read (pos n) (pos k)) lent (chosen (viewPlant p)) (viewPlant p) _ (ap (λ (x : C.Result). x .answer) e) i in
-      rw (ec ∙ cache-are p h n k lent m, shared-is h (in-range p h n k lent m) (is-live p h n k lent m)) refl
+      rw (ec ∙ same-cache p n k ∙ cache-are p h n k lent m, shared-is h (in-range p h n k lent m) (is-live p h n k lent m)) refl
       ∙ left-accepted (Read (pos n) (pos k)) lent (chosen (viewPlant p)) (viewPlant p) m
       ∙ ap (λ (x : C.Result). x .plant) (sym e)
 
-  pub leaves-form : (plantForm p ≡ true → cacheForm c ≡ true) → (sessionsForm (p .sessions) ≡ true → sessionsForm s ≡ true) → plantForm p ≡ true → plantForm left ≡ true
+  pub leaves-form : (storeForm (p .store) ≡ true → cacheForm (p .cache) ≡ true → cacheForm c ≡ true) → (sessionsForm (p .sessions) ≡ true → sessionsForm s ≡ true) → plantForm p ≡ true → plantForm left ≡ true
   leaves-form fc fs f =
       let x = form-parts p f in
-      formed _ (record { store = x .store; keys = x .keys; cache = fc f; sessions = fs (x .sessions); buffer = x .buffer; rows = x .rows; hands = x .hands; queue = x .queue })
+      formed _ (record { store = x .store; keys = x .keys; cache = fc (x .store) (x .cache); sessions = fs (x .sessions); buffer = x .buffer; rows = x .rows; hands = x .hands; queue = x .queue })

@@ -1,2 +1,3 @@
--- A place's value.
+-- A place's value, and the tables it is found in.
 pub mod Value
+pub mod Sight

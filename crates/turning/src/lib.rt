@@ -6,43 +6,54 @@ ghost use lib.ListN.{length};
 ghost use Rattle.rules.specs.Refusals.{first};
 ghost use Rattle.rules.specs.Calls.{Read};
 ghost use Rattle.rules.specs.Conditions.{conditions};
-ghost use Rattle.plant.specs.View.{viewPlant};
 ghost use Rattle.answers.specs.View.{viewAnswer};
+ghost use Rattle.seeing.specs.Sight.{sightAway};
 ghost use Rattle.turning.specs.Told.{told};
 use answers::Answer;
 use answers::Refusal;
+use buffer::Buffer;
+use cache::Cache;
 use field::Field;
 use keys::Keys;
-use plant::Plant;
+use sessions::Sessions;
 
 // The refusal, in the paper's order 1, 2, 3, 9, 22, 4, 20, or `Done` where there is none.
-pub fn refusal(p: Plant, n: u32, k: u8, lent: usize) -> Answer
-    ensures { λ r. ⌜ ((words : List ℤ) → lent ≡ length words → viewAnswer r ≡ told (first (conditions (Read (pos n) (pos k)) words (viewPlant p)))) ⌝ }
+pub fn refusal(
+    near: bool,
+    keys: Keys,
+    cache: Cache,
+    sessions: Sessions,
+    buffer: Buffer,
+    n: u32,
+    k: u8,
+    lent: usize,
+) -> Answer
+    ensures { λ r. ⌜ ((words : List ℤ) → lent ≡ length words → viewAnswer r ≡ told (first (conditions (Read (pos n) (pos k)) words (sightAway near keys cache sessions buffer)))) ⌝ }
 {
     if Keys::LIMIT <= k as usize {
         return Answer::Refused(Refusal::OutOfRange);
     }
-    if !p.sessions.has(n) {
+    if !sessions.has(n) {
         return Answer::Refused(Refusal::NoSlot);
     }
-    let s = p.sessions.session(n);
+    let s = sessions.session(n);
     if s.is_doomed() {
         return Answer::Refused(Refusal::WasDoomed);
     }
-    let key = p.keys.key(k);
+    let key = keys.key(k);
     if key.is_empty() {
         return Answer::Refused(Refusal::KeyUndefined);
     }
     if lent < Field::WORDS * key.len() as usize {
         return Answer::Refused(Refusal::FewWords);
     }
-    if asking::hindered(p.sessions, n, key) {
+    if asking::hindered(sessions, n, key) {
         return Answer::Refused(Refusal::ExclusiveElsewhere);
     }
-    if p.near {
+    if near {
         return Answer::Done;
     }
-    if asking::unknown_away(p.keys, p.cache, p.buffer, s.changes, key) {
+    if asking::unknown_away(keys, cache, buffer, s.changes, key) {
         return Answer::Refused(Refusal::StoreAway);
     }
     Answer::Done

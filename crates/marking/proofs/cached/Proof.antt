@@ -1,6 +1,6 @@
 -- `cached` meets its contract.
 use borrow.Author.Needs.{needs}
-use Rattle.marking.proofs.MarkingLaws.{caches-none, caches-same, caches-one, cache-form}
+use Rattle.marking.proofs.MarkingLaws.{caches-none, caches-same, caches-one}
 use Rattle.marking.proofs.cached.Statement.{statement}
 use Rattle.marking.proofs.cached.Tie as tie
 
@@ -14,13 +14,13 @@ touched-requires : tie.Need-touched-requires
 touched-requires c κs = search needs
 
 returns : tie.Need-returns
-returns c = search (caches-none, cache-form, needs)
+returns c = (search (caches-none, needs), λ f g. g)
 
 has-requires : tie.Need-has-requires
 has-requires c κs = search needs
 
 returns-2 : tie.Need-returns-2
-returns-2 c = search (caches-same, cache-form, needs)
+returns-2 c = (search (caches-same, needs), λ f g. g)
 
 worked-requires : tie.Need-worked-requires
 worked-requires c κs = search needs
@@ -32,7 +32,7 @@ push-requires : tie.Need-push-requires
 push-requires c κs = search needs
 
 returns-3 : tie.Need-returns-3
-returns-3 c = (search (caches-one, needs), λ f. c .push .ensures .1 (c .before .before .worked .ensures .1 f) (c .before .with-room .ensures .1 (cache-form _ f)))
+returns-3 c = (search (caches-one, needs), λ f g. c .push .ensures .1 (c .before .before .worked .ensures .1 f g) (c .before .with-room .ensures .1 g))
 
 pub cached-spec : {M : Type 1} → statement M
 cached-spec =

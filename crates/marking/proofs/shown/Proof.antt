@@ -1,5 +1,9 @@
 -- `shown` meets its contract.
 use borrow.Author.Needs.{needs}
+use borrow.Author.Tests.{not-true, not-false}
+use mathlib.Core.Path.{sym, _∙_}
+use mathlib.Core.Bool.{true≢false}
+use mathlib.Core.Logic.{⊎-elim}
 use Rattle.marking.proofs.MarkingLaws.{marks-own, shows-own, marks-cached, shows-cached, marks-now, shows-now}
 use Rattle.marking.proofs.shown.Statement.{statement}
 use Rattle.marking.proofs.shown.Tie as tie
@@ -13,26 +17,26 @@ key-requires c κs = search needs
 touched-requires : tie.Need-touched-requires
 touched-requires c κs = search needs
 
-worked-requires : tie.Need-worked-requires
-worked-requires c κs = search needs
-
-returns : tie.Need-returns
-returns c = search (marks-own, shows-own, needs)
-
 has-requires : tie.Need-has-requires
 has-requires c κs = search needs
 
 found-requires : tie.Need-found-requires
 found-requires c κs = search needs
 
-returns-2 : tie.Need-returns-2
-returns-2 c = search (marks-cached, shows-cached, needs)
+returns : tie.Need-returns
+returns c = search (marks-cached, shows-cached, not-true, needs)
 
-worked-requires-2 : tie.Need-worked-requires-2
-worked-requires-2 c κs = search needs
+worked-requires : tie.Need-worked-requires
+worked-requires c κs = search needs
+
+returns-2 : tie.Need-returns-2
+returns-2 c = search (marks-own, shows-own, needs)
 
 returns-3 : tie.Need-returns-3
-returns-3 c = search (marks-now, shows-now, needs)
+returns-3 c =
+    ⊎-elim (λ w. search (marks-now, shows-now, w .1 .ensures, w .2 .left, needs))
+    (λ w. absurd (true≢false (sym (not-false _ (w .left)) ∙ c .if3 .left)))
+    (c .before .before .if1 .came)
 
 pub shown-spec : {M : Type 1} → statement M
 shown-spec =
@@ -41,10 +45,9 @@ shown-spec =
     session-requires
     key-requires
     touched-requires
-    worked-requires
-    returns
     has-requires
     found-requires
+    returns
+    worked-requires
     returns-2
-    worked-requires-2
     returns-3)

@@ -4,14 +4,14 @@ use borrow.Author.Needs.{needs}
 use Rattle.seeing.proofs.known.Statement.{statement}
 use Rattle.seeing.proofs.known.Tie as tie
 
-returns : tie.Need-returns
-returns c = search (known-near, needs)
-
 known-away-requires : tie.Need-known-away-requires
 known-away-requires c κs = search needs
 
+returns : tie.Need-returns
+returns c = search (known-away, needs)
+
 returns-2 : tie.Need-returns-2
-returns-2 c = search (known-away, needs)
+returns-2 c = search (known-near, needs)
 
 pub known-spec : {M : Type 1} → statement M
-known-spec = tie.close (tie.spec returns known-away-requires returns-2)
+known-spec = tie.close (tie.spec known-away-requires returns returns-2)

@@ -1,6 +1,6 @@
 -- `refusal` meets its contract.
 use borrow.Author.Needs.{needs}
-use Rattle.turning.proofs.TurningLaws.{out-of-range, no-slot, was-doomed, undefined, few-words, elsewhere, near, away, known}
+use Rattle.turning.proofs.TurningLaws.{out-of-range, no-slot, was-doomed, undefined, few-words, elsewhere, is-near, away, known}
 use Rattle.turning.proofs.refusal.Statement.{statement}
 use Rattle.turning.proofs.refusal.Tie as tie
 
@@ -50,7 +50,7 @@ returns-6 : tie.Need-returns-6
 returns-6 c = search (elsewhere, needs)
 
 returns-7 : tie.Need-returns-7
-returns-7 c = search (near, needs)
+returns-7 c = search (is-near, needs)
 
 unknown-away-requires : tie.Need-unknown-away-requires
 unknown-away-requires c κs = search needs

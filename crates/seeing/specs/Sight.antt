@@ -1,0 +1,49 @@
+-- The plant of the tables that a session's call looks at: the others are as at set-up.
+use mathlib.Core.Bool.{Bool}
+use Rattle.rules.specs.Tables as M
+use Rattle.rules.specs.Tables.{setup}
+use Rattle.store.specs.View.{viewStore}
+use Rattle.store.specs.declared.Store.{Store}
+use Rattle.keys.specs.View.{viewKeys}
+use Rattle.keys.specs.declared.Keys.{Keys}
+use Rattle.cache.specs.View.{viewCache}
+use Rattle.cache.specs.declared.Cache.{Cache}
+use Rattle.sessions.specs.View.{viewSessions}
+use Rattle.sessions.specs.declared.Sessions.{Sessions}
+use Rattle.buffer.specs.View.{viewBuffer}
+use Rattle.buffer.specs.declared.Buffer.{Buffer}
+use Rattle.rows.specs.View.{viewRows}
+use Rattle.rows.specs.declared.Rows.{Rows}
+
+unfoldable pub sight : Bool → Store → Keys → Cache → Sessions → Buffer → Rows → M.Plant
+sight near store keys cache sessions buffer rows =
+    record {
+      store = viewStore store;
+      keys = viewKeys keys;
+      cache = viewCache cache;
+      slots = viewSessions sessions;
+      buffer = viewBuffer buffer;
+      rows = viewRows rows;
+      hands = setup .hands;
+      queue = setup .queue;
+      clock = setup .clock;
+      near = near;
+      next = setup .next;
+    }
+
+-- without a look at the store, nor at the rows that say what it has
+unfoldable pub sightAway : Bool → Keys → Cache → Sessions → Buffer → M.Plant
+sightAway near keys cache sessions buffer =
+    record {
+      store = setup .store;
+      keys = viewKeys keys;
+      cache = viewCache cache;
+      slots = viewSessions sessions;
+      buffer = viewBuffer buffer;
+      rows = setup .rows;
+      hands = setup .hands;
+      queue = setup .queue;
+      clock = setup .clock;
+      near = near;
+      next = setup .next;
+    }
