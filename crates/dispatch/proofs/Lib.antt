@@ -1,2 +1,2 @@
 -- The proofs of both functions.
-mod Laws
+pub mod Laws

@@ -19,7 +19,7 @@ use Rattle.format.proofs.Short.{short}
 use Rattle.format.proofs.Cutting.{complete-none, unended-all, end-complete, end-unended}
 use Rattle.format.proofs.Feeding.{feeds-free, feeds-append}
 use Rattle.printing.specs.Line.{longest}
-use Rattle.plant.specs.View.{viewPlant, keptPlant}
+use Rattle.plant.specs.View.{viewPlant, plantForm, keptPlant}
 use Rattle.plant.specs.declared.Plant.{Plant}
 use Rattle.pending.specs.View.{viewPending, pendingForm, between, endFrom}
 use Rattle.pending.proofs.Ending.{end-at, end-within, end-front, end-found, end-none, none-complete, none-unended}
@@ -27,6 +27,15 @@ use Rattle.pending.specs.declared.Pending.{Pending}
 use Rattle.answers.specs.declared.Answer.{Answer}
 use Rattle.lines.specs.View.{viewSaid}
 use Rattle.lines.specs.declared.Said.{Said}
+use Rattle.lines.specs.declared.Said.the-variants.{Says}
+use Rattle.calls.specs.View.{viewCall}
+use Rattle.calls.specs.declared.Call.{Call}
+use Rattle.answers.specs.View.{viewAnswer, isRefused, isEnding}
+use Rattle.promises.specs.Promise.{Performs, Leaves, Keeps}
+use Rattle.promises.proofs.Chosen.{and-keeps}
+use Rattle.promises.proofs.Chosen as chosen
+use Rattle.promises.proofs.Leaving.{stays}
+use Rattle.dispatch.proofs.Laws.{left}
 use Rattle.serving.specs.Answered.{Answered, Tells}
 use Rattle.serving.proofs.Laws.{Done, done}
 use Rattle.feeding.specs.Fed.{keptServer, Within, Ready, Next, Fed, Finished}
@@ -193,6 +202,23 @@ module _ (s : Server) (piece lent : List ℕ) (end : ℕ) (ee : end ≡ endFrom 
     pub line-fed : (x : Said) → viewSaid x ≡ said (u ++ rest) → (a : Answer) → (longest ≤ length room → keptPlant (s .plant) ≡ true → Tells x (s .plant) room part len a) → len ≤ length room
         → Done x (s .plant) a q → (keptServer s ≡ true → Next s piece lent out answered) × ((Within answered piece lent) × (s .used < end + 1))
     line-fed x es a t l d = one-line (λ r k. subst (λ z. Answered z (s .plant) room part len q) es (done x (s .plant) q room part len a d t r k)) l
+
+-- ── what a call leaves, in the loop ──
+module _ (x : Said) (c : Call) (ex : x ≡ Says c) (p : Plant) (a : Answer) where
+  -- by the tables that it writes
+  pub done-by : (y : Call) → c ≡ y → (r : Bool) → r ≡ isRefused (viewAnswer a) → r ≡ false → (q : Plant) → Performs (viewCall y) p q × (plantForm p ≡ true → plantForm q ≡ true) → Done x p a q
+  done-by y e r er h q f =
+      let g = left p c y e q f in
+      let d = chosen.performed (viewCall c) p q a r er h (g .0) (g .1) in
+      subst (λ z. Done z p a q) (sym ex) (d .0, d .1 .1)
+
+  -- by a function over all calls
+  pub done-whole : (q : Plant) → Leaves (viewCall c) p a q × ((plantForm p ≡ true → plantForm q ≡ true) × Keeps (viewCall c) p a q) → Done x p a q
+  done-whole q f = subst (λ z. Done z p a q) (sym ex) (f .0, f .1 .1)
+
+  -- nothing, where it is refused and its session goes on
+  pub done-nothing : (e : Bool) → e ≡ isEnding (viewAnswer a) → (r : Bool) → r ≡ isRefused (viewAnswer a) → e ≡ false → r ≡ true → Done x p a p
+  done-nothing e ee r er g h = let d = and-keeps (viewCall c) p p a (stays (viewCall c) p a e ee r er g h) (λ f. f) in subst (λ z. Done z p a p) (sym ex) (d .0, d .1 .1)
 
 -- ── the pieces of a piece ──
 pub record Feeding (piece lent : List ℕ) (s : Server) (out : List ℕ) (t : Server) : Type 0 where

@@ -12,6 +12,7 @@ ghost use Rattle.plant.specs.View.{viewPlant, keptPlant};
 ghost use Rattle.pending.specs.View.{viewPending, between};
 ghost use Rattle.lines.specs.View.{viewSaid};
 ghost use Rattle.feeding.specs.Fed.{keptServer, Within, Fed, Finished};
+use calls::Call;
 use lines::Said;
 use pending::Pending;
 use plant::Plant;
@@ -55,7 +56,8 @@ fn heard(kept: Pending, piece: &[u8], from: usize, to: usize) -> Said
     lines::parse(&bytes[..len])
 }
 
-// Takes the piece as far as there is room for its answers.
+// Takes the piece as far as there is room for its answers. The calls of a working day write their tables in place, because a plant that
+// goes through a function is copied; the others do not come often.
 pub fn feed(s: Server, piece: &[u8], out: &mut [u8]) -> Server
     ensures feeds { λ r. ⌜ (keptServer s ≡ true → Fed s (now (piece .entry)) (now (out .exit)) r) ⌝ }
     ensures within { λ r. ⌜ Within r (now (piece .entry)) (now (out .entry)) ⌝ }
@@ -93,7 +95,67 @@ pub fn feed(s: Server, piece: &[u8], out: &mut [u8]) -> Server
             continue;
         };
         let a = replied.answer;
-        p = dispatch::after(p, c, a);
+        if a.ends_session() {
+            p = dispatch::after(p, c, a);
+            continue;
+        }
+        if a.is_refused() {
+            continue;
+        }
+        match c {
+            Call::Begin => {
+                let t = begin::after(p);
+                let sessions = t.sessions;
+                p.sessions = sessions;
+                p.next = t.next;
+            }
+            Call::Read(s, k) => {
+                let t = read::after(p, s, k);
+                let cache = t.cache;
+                let sessions = t.sessions;
+                p.cache = cache;
+                p.sessions = sessions;
+            }
+            Call::Change(s, d, f, k, v) => {
+                let sessions = change::after(p, s, d, f, k, v);
+                p.sessions = sessions;
+            }
+            Call::Commit(s) => {
+                let t = commit::after(p, s);
+                let buffer = t.buffer;
+                let cache = t.cache;
+                let sessions = t.sessions;
+                p.buffer = buffer;
+                p.cache = cache;
+                p.sessions = sessions;
+            }
+            Call::Take(w) => {
+                let t = take::after(p, w);
+                let hands = t.hands;
+                let queue = t.queue;
+                p.hands = hands;
+                p.queue = queue;
+            }
+            Call::Apply(w, f) => {
+                let t = apply::after(p, w, f);
+                let store = t.store;
+                let rows = t.rows;
+                let hands = t.hands;
+                p.store = store;
+                p.rows = rows;
+                p.hands = hands;
+            }
+            Call::Delete(w) => {
+                let t = delete::after(p, w);
+                let buffer = t.buffer;
+                let hands = t.hands;
+                let queue = t.queue;
+                p.buffer = buffer;
+                p.hands = hands;
+                p.queue = queue;
+            }
+            _ => p = dispatch::after(p, c, a),
+        }
     }
     Server {
         plant: p,
