@@ -1,2 +1,2 @@
--- The proofs of both functions.
-pub mod Laws
+-- The proof of the answer.
+mod Laws

@@ -1,15 +1,12 @@
-// What any of the fifteen calls answers and leaves: the two functions of each call, chosen by the call.
+// What any of the fifteen calls answers: the function of the call.
 ghost use mathlib.Core.Path.{_≡_};
 ghost use mathlib.Core.Bool.{true};
 ghost use Rattle.calls.specs.View.{viewCall};
-ghost use Rattle.plant.specs.View.{viewPlant, keptPlant, plantForm};
-ghost use Rattle.plant.specs.With.{withSessions};
-ghost use Rattle.rules.specs.Step.{sessionOf, ending};
-ghost use Rattle.promises.specs.Promise.{result, Answers, Performs, Leaves, Keeps};
+ghost use Rattle.plant.specs.View.{keptPlant};
+ghost use Rattle.promises.specs.Promise.{result, Answers};
 use answers::Answer;
 use calls::Call;
 use plant::Plant;
-use sessions::Sessions;
 
 pub fn answer(p: Plant, c: Call, words: &mut [i32]) -> Answer
     ensures answers { λ r. ⌜ Answers (viewCall c) (now (words .entry)) p r ⌝ }
@@ -44,134 +41,4 @@ pub fn answer(p: Plant, c: Call, words: &mut [i32]) -> Answer
         Call::Store(n) => nearness::answer(p, n),
         Call::Report(s) => report::answer(p, s),
     }
-}
-
-// The sessions where the call was refused and that ended its session.
-fn ended(p: Plant, c: Call) -> Sessions
-    ensures shows { λ r. ⌜ (keptPlant p ≡ true → viewPlant (withSessions p r) ≡ ending (sessionOf (viewCall c)) (viewPlant p)) ⌝ }
-    ensures form { λ r. ⌜ (plantForm p ≡ true → plantForm (withSessions p r) ≡ true) ⌝ }
-{
-    match c {
-        Call::Read(s, _) => ending::ended(p, s),
-        Call::Change(s, _, _, _, _) => ending::ended(p, s),
-        Call::Commit(s) => ending::ended(p, s),
-        Call::Abandon(s) => ending::ended(p, s),
-        Call::Report(s) => ending::ended(p, s),
-        _ => p.sessions,
-    }
-}
-
-// The plant that an accepted call leaves.
-fn performed(mut p: Plant, c: Call) -> Plant
-    ensures shows { λ r. ⌜ Performs (viewCall c) p r ⌝ }
-    ensures form { λ r. ⌜ (plantForm p ≡ true → plantForm r ≡ true) ⌝ }
-{
-    match c {
-        Call::Load(d, f, k, v) => {
-            let store = load::after(p, d, f, k, v);
-            p.store = store;
-        }
-        Call::Map(k, n, d1, f1, d2, f2, d3, f3, d4, f4) => {
-            let keys = map::after(p, k, n, d1, f1, d2, f2, d3, f3, d4, f4);
-            p.keys = keys;
-        }
-        Call::Begin => {
-            let t = begin::after(p);
-            let sessions = t.sessions;
-            p.sessions = sessions;
-            p.next = t.next;
-        }
-        Call::Read(s, k) => {
-            let t = read::after(p, s, k);
-            let cache = t.cache;
-            let sessions = t.sessions;
-            p.cache = cache;
-            p.sessions = sessions;
-        }
-        Call::Change(s, d, f, k, v) => {
-            let sessions = change::after(p, s, d, f, k, v);
-            p.sessions = sessions;
-        }
-        Call::Commit(s) => {
-            let t = commit::after(p, s);
-            let buffer = t.buffer;
-            let cache = t.cache;
-            let sessions = t.sessions;
-            p.buffer = buffer;
-            p.cache = cache;
-            p.sessions = sessions;
-        }
-        Call::Abandon(s) => {
-            let sessions = abandon::after(p, s);
-            p.sessions = sessions;
-        }
-        Call::Advance(n) => {
-            let t = advance::after(p, n);
-            let cache = t.cache;
-            let sessions = t.sessions;
-            let queue = t.queue;
-            p.cache = cache;
-            p.sessions = sessions;
-            p.queue = queue;
-            p.clock = t.clock;
-        }
-        Call::Take(w) => {
-            let t = take::after(p, w);
-            let hands = t.hands;
-            let queue = t.queue;
-            p.hands = hands;
-            p.queue = queue;
-        }
-        Call::Apply(w, f) => {
-            let t = apply::after(p, w, f);
-            let store = t.store;
-            let rows = t.rows;
-            let hands = t.hands;
-            p.store = store;
-            p.rows = rows;
-            p.hands = hands;
-        }
-        Call::Delete(w) => {
-            let t = delete::after(p, w);
-            let buffer = t.buffer;
-            let hands = t.hands;
-            let queue = t.queue;
-            p.buffer = buffer;
-            p.hands = hands;
-            p.queue = queue;
-        }
-        Call::Cut(w) => {
-            let t = cut::after(p, w);
-            let hands = t.hands;
-            let queue = t.queue;
-            p.hands = hands;
-            p.queue = queue;
-        }
-        Call::Sweep => {
-            let rows = sweep::after(p);
-            p.rows = rows;
-        }
-        Call::Store(n) => {
-            let near = nearness::after(p, n);
-            p.near = near;
-        }
-        Call::Report(_) => {}
-    }
-    p
-}
-
-pub fn after(mut p: Plant, c: Call, a: Answer) -> Plant
-    ensures shows { λ r. ⌜ Leaves (viewCall c) p a r ⌝ }
-    ensures form { λ r. ⌜ (plantForm p ≡ true → plantForm r ≡ true) ⌝ }
-    ensures kept { λ r. ⌜ Keeps (viewCall c) p a r ⌝ }
-{
-    if a.ends_session() {
-        let sessions = ended(p, c);
-        p.sessions = sessions;
-        return p;
-    }
-    if a.is_refused() {
-        return p;
-    }
-    performed(p, c)
 }

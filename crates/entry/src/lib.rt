@@ -16,6 +16,6 @@ pub fn run(p: Plant, c: Call, words: &mut [i32]) -> Outcome
     ensures { λ r. ⌜ (keptPlant p ≡ true → Ran c (now (words .entry)) p (r .answer) (now (words .exit)) (r .plant)) ⌝ }
 {
     let answer = dispatch::answer(p, c, words);
-    let plant = dispatch::after(p, c, answer);
+    let plant = leaving::after(p, c, answer);
     Outcome { answer, plant }
 }

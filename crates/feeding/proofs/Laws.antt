@@ -35,7 +35,7 @@ use Rattle.promises.specs.Promise.{Performs, Leaves, Keeps}
 use Rattle.promises.proofs.Chosen.{and-keeps}
 use Rattle.promises.proofs.Chosen as chosen
 use Rattle.promises.proofs.Leaving.{stays}
-use Rattle.dispatch.proofs.Laws.{left}
+use Rattle.leaving.proofs.Laws.{left}
 use Rattle.serving.specs.Answered.{Answered, Tells}
 use Rattle.serving.proofs.Laws.{Done, done}
 use Rattle.feeding.specs.Fed.{keptServer, Within, Ready, Next, Fed, Finished}

@@ -96,7 +96,7 @@ pub fn feed(s: Server, piece: &[u8], out: &mut [u8]) -> Server
         };
         let a = replied.answer;
         if a.ends_session() {
-            p = dispatch::after(p, c, a);
+            p = leaving::after(p, c, a);
             continue;
         }
         if a.is_refused() {
@@ -154,7 +154,7 @@ pub fn feed(s: Server, piece: &[u8], out: &mut [u8]) -> Server
                 p.hands = hands;
                 p.queue = queue;
             }
-            _ => p = dispatch::after(p, c, a),
+            _ => p = leaving::after(p, c, a),
         }
     }
     Server {
@@ -193,7 +193,7 @@ pub fn finish(s: Server, out: &mut [u8]) -> Server
         };
     };
     let a = replied.answer;
-    let left = dispatch::after(plant, c, a);
+    let left = leaving::after(plant, c, a);
     Server {
         plant: left,
         pending,

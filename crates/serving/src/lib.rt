@@ -88,7 +88,7 @@ pub fn serve(p: Plant, line: &[u8], out: &mut [u8]) -> Served
     match said {
         Said::Says(c) => {
             let answer = replied.answer;
-            let plant = dispatch::after(p, c, answer);
+            let plant = leaving::after(p, c, answer);
             Served { plant, len }
         }
         Said::Faulty(_) => Served { plant: p, len },

@@ -1,6 +1,7 @@
 -- `answer` meets its contract.
 use mathlib.Core.Path.{refl}
-use Rattle.dispatch.proofs.Laws.{back1, back2, back4, back5, back10, answered, fills-none}
+use Rattle.calls.proofs.Back.{back1, back2, back4, back5, back10}
+use Rattle.dispatch.proofs.Laws.{answered, fills-none}
 use Rattle.calls.specs.declared.Call.the-variants.{Load, Map, Read, Change, Commit, Abandon, Advance, Take, Apply, Delete, Cut, Store, Report}
 use borrow.Author.Needs.{needs}
 use Rattle.dispatch.proofs.answer.Statement.{statement}

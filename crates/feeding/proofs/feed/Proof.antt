@@ -6,18 +6,12 @@ use mathlib.Core.List.{[]}
 use lib.ListN.{length}
 use borrow.Author.Needs.{needs}
 use Rattle.calls.specs.declared.Call.the-variants.{Read, Change, Commit, Take, Apply, Delete}
-use Rattle.dispatch.proofs.Laws.{back1, back2, back5}
+use Rattle.calls.proofs.Back.{back1, back2, back5}
 use Rattle.serving.proofs.Laws.{Done}
 use Rattle.feeding.specs.Fed.{Ready}
 use Rattle.feeding.proofs.Laws.{Feeding, at, feed-start, feed-next, feed-line, feed-end, line-inside, no-line, more-wrote, done-by, done-whole, done-nothing}
 use Rattle.feeding.proofs.feed.Statement.{statement}
 use Rattle.feeding.proofs.feed.Tie as tie
-use Rattle.change.proofs.after.Reads as after-reads′′
-use Rattle.commit.proofs.after.Reads as after-reads′′′
-use Rattle.delete.proofs.after.Reads as after-reads′′′′
-use Rattle.dispatch.proofs.after.Reads as after-reads′′′′′
-use Rattle.read.proofs.after.Reads as after-reads′′′′′′
-use Rattle.take.proofs.after.Reads as after-reads′′′′′′′
 
 abbrev Inv-loop : tie.InvT-loop
 Inv-loop piece out₀ p₀ kept₀ used₀ wrote₀ out p kept used wrote = Feeding piece out₀ (at p₀ kept₀ 0 0) out (at p kept used wrote)

@@ -1,9 +1,10 @@
 -- `ended` meets its contract.
-use Rattle.dispatch.proofs.Laws.{back1, back2, back5, ends-it, ends-none}
+use Rattle.calls.proofs.Back.{back1, back2, back5}
+use Rattle.leaving.proofs.Laws.{ends-it, ends-none}
 use Rattle.calls.specs.declared.Call.the-variants.{Read, Change, Commit, Abandon, Report}
 use borrow.Author.Needs.{needs}
-use Rattle.dispatch.proofs.ended.Statement.{statement}
-use Rattle.dispatch.proofs.ended.Tie as tie
+use Rattle.leaving.proofs.ended.Statement.{statement}
+use Rattle.leaving.proofs.ended.Tie as tie
 
 enum-known-c : tie.Need-enum-known-c
 enum-known-c c = search needs

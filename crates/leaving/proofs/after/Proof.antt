@@ -2,8 +2,8 @@
 use Rattle.promises.proofs.Leaving.{ends, stays}
 use Rattle.promises.proofs.Chosen.{and-keeps, performed}
 use borrow.Author.Needs.{needs}
-use Rattle.dispatch.proofs.after.Statement.{statement}
-use Rattle.dispatch.proofs.after.Tie as tie
+use Rattle.leaving.proofs.after.Statement.{statement}
+use Rattle.leaving.proofs.after.Tie as tie
 
 ends-session-requires : tie.Need-ends-session-requires
 ends-session-requires c κs = search needs

@@ -1,10 +1,11 @@
 -- `performed` meets its contract.
-use Rattle.dispatch.proofs.Laws.{back1, back2, back4, back5, back10, left}
+use Rattle.calls.proofs.Back.{back1, back2, back4, back5, back10}
+use Rattle.leaving.proofs.Laws.{left}
 use Rattle.report.proofs.Laws.{performs}
 use Rattle.calls.specs.declared.Call.the-variants.{Load, Map, Read, Change, Commit, Abandon, Advance, Take, Apply, Delete, Cut, Store}
 use borrow.Author.Needs.{needs}
-use Rattle.dispatch.proofs.performed.Statement.{statement}
-use Rattle.dispatch.proofs.performed.Tie as tie
+use Rattle.leaving.proofs.performed.Statement.{statement}
+use Rattle.leaving.proofs.performed.Tie as tie
 use Rattle.apply.proofs.after.Reads as after-reads′′
 use Rattle.begin.proofs.after.Reads as after-reads′′′
 use Rattle.change.proofs.after.Reads as after-reads′′′′

@@ -1,0 +1,2 @@
+-- Laws of calls as values.
+pub mod Back

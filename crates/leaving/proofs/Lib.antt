@@ -1,0 +1,2 @@
+-- The proofs of what calls leave.
+pub mod Laws
