@@ -1,2 +1,2 @@
 -- The proof of the answer.
-mod Laws
+pub mod Laws

@@ -1,16 +1,20 @@
 // What any of the fifteen calls answers: the function of the call.
 ghost use mathlib.Core.Path.{_≡_};
 ghost use mathlib.Core.Bool.{true};
+ghost use mathlib.Core.List.{List};
+ghost use lib.IntN.{ℤ};
 ghost use Rattle.calls.specs.View.{viewCall};
 ghost use Rattle.plant.specs.View.{keptPlant};
 ghost use Rattle.promises.specs.Promise.{result, Answers};
+ghost use Rattle.dispatch.specs.Plain.{isPlain};
 use answers::Answer;
 use calls::Call;
 use plant::Plant;
 
-pub fn answer(p: Plant, c: Call, words: &mut [i32]) -> Answer
-    ensures answers { λ r. ⌜ Answers (viewCall c) (now (words .entry)) p r ⌝ }
-    ensures fills { λ r. ⌜ (keptPlant p ≡ true → now (words .exit) ≡ result (viewCall c) (now (words .entry)) p .words) ⌝ }
+// A call that sees no field. These hand no table on, so a plant that is lent to them where it lies is not copied; whoever serves many
+// calls asks read and change by himself.
+pub fn plain(p: Plant, c: Call) -> Answer
+    ensures { λ r. ⌜ (isPlain c ≡ true → (lent : List ℤ) → Answers (viewCall c) lent p r) ⌝ }
 {
     match c {
         Call::Load(d, f, k, v) => load::answer(p, d, f, k, v),
@@ -28,8 +32,6 @@ pub fn answer(p: Plant, c: Call, words: &mut [i32]) -> Answer
             f4,
         ),
         Call::Begin => begin::answer(p),
-        Call::Read(s, k) => read::answer(p, s, k, words),
-        Call::Change(s, d, f, k, v) => change::answer(p, s, d, f, k, v),
         Call::Commit(s) => commit::answer(p, s),
         Call::Abandon(s) => abandon::answer(p, s),
         Call::Advance(n) => advance::answer(p, n),
@@ -40,5 +42,17 @@ pub fn answer(p: Plant, c: Call, words: &mut [i32]) -> Answer
         Call::Sweep => sweep::answer(p),
         Call::Store(n) => nearness::answer(p, n),
         Call::Report(s) => report::answer(p, s),
+        _ => Answer::Done,
+    }
+}
+
+pub fn answer(p: Plant, c: Call, words: &mut [i32]) -> Answer
+    ensures answers { λ r. ⌜ Answers (viewCall c) (now (words .entry)) p r ⌝ }
+    ensures fills { λ r. ⌜ (keptPlant p ≡ true → now (words .exit) ≡ result (viewCall c) (now (words .entry)) p .words) ⌝ }
+{
+    match c {
+        Call::Read(s, k) => read::answer(p, s, k, words),
+        Call::Change(s, d, f, k, v) => change::answer(p, s, d, f, k, v),
+        _ => plain(p, c),
     }
 }

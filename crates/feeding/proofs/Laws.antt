@@ -4,16 +4,19 @@ use native.Mathlib.Omega.{arith}
 use mathlib.Core.Path.{_≡_, refl, sym, _∙_, ap, subst}
 use mathlib.Core.Bool.{Bool, true, false, not, _&&_, true≢false}
 use mathlib.Core.List.{List, [], _++_, _∷_, append-assoc, append-nil}
+use lib.IntN.{ℤ}
 use lib.ListN.{length, take, drop, length-drop, length-take}
 use lib.Dec.{leb}
 use lib.Seq.{length-take-le, take-all, take-at, drop-at, take-append-add}
 use borrow.Rule.Slice.PartMut.{putMid, postOf, take-put}
 use borrow.Author.Tests.{le-leb, leb-true}
 use Rattle.rules.specs.Lists.{isEmpty}
+use Rattle.rules.specs.Step.{sessionOf, ending}
+use Rattle.rules.specs.Claims.{Fills}
 use Rattle.rules.proofs.Laws.{byCase, and-true}
 use Rattle.format.specs.Bytes.{newline, lineLimit}
 use Rattle.format.specs.Lines.{said}
-use Rattle.format.specs.Serving.{Serves, performed, serve}
+use Rattle.format.specs.Serving.{Serves, performed, serve, lentWords}
 use Rattle.format.specs.Feeding.{hasEnd, complete, unended, lastLine, Feeds}
 use Rattle.format.proofs.Short.{short}
 use Rattle.format.proofs.Cutting.{complete-none, unended-all, end-complete, end-unended}
@@ -31,10 +34,13 @@ use Rattle.lines.specs.declared.Said.the-variants.{Says}
 use Rattle.calls.specs.View.{viewCall}
 use Rattle.calls.specs.declared.Call.{Call}
 use Rattle.answers.specs.View.{viewAnswer, isRefused, isEnding}
-use Rattle.promises.specs.Promise.{Performs, Leaves, Keeps}
+use Rattle.promises.specs.Promise.{result, Answers, Performs, Leaves, Keeps}
 use Rattle.promises.proofs.Chosen.{and-keeps}
 use Rattle.promises.proofs.Chosen as chosen
-use Rattle.promises.proofs.Leaving.{stays}
+use Rattle.promises.proofs.Leaving.{stays, ends}
+use Rattle.dispatch.specs.Plain.{isPlain}
+use Rattle.dispatch.proofs.Laws.{fills-none, plain-answered}
+use Rattle.dispatch.proofs.Laws as dispatch
 use Rattle.leaving.proofs.Laws.{left}
 use Rattle.serving.specs.Answered.{Answered, Tells}
 use Rattle.serving.proofs.Laws.{Done, done}
@@ -203,27 +209,56 @@ module _ (s : Server) (piece lent : List ℕ) (end : ℕ) (ee : end ≡ endFrom 
         → Done x (s .plant) a q → (keptServer s ≡ true → Next s piece lent out answered) × ((Within answered piece lent) × (s .used < end + 1))
     line-fed x es a t l d = one-line (λ r k. subst (λ z. Answered z (s .plant) room part len q) es (done x (s .plant) q room part len a d t r k)) l
 
+-- ── what a call answers, in the loop ──
+-- the line says the call, that is its answer, and these are its words
+pub record Asked (x : Said) (p : Plant) (c : Call) (a : Answer) (ws : List ℤ) : Type 0 where
+  pub says : x ≡ Says c
+  pub answers : Answers (viewCall c) lentWords p a
+  pub fills : keptPlant p ≡ true → ws ≡ result (viewCall c) lentWords p .words
+
+-- by the function of the call, or by one over several
+pub asked : (x : Said) (p : Plant) (y z c : Call) (b a : Answer) (vs ws : List ℤ) → x ≡ Says y → y ≡ z → c ≡ y → ws ≡ vs → a ≡ b → dispatch.Answered p lentWords vs b z → Asked x p c a ws
+asked x p y z c b a vs ws ex ez ec ew ea h =
+    let g = subst (dispatch.Answered p lentWords vs b) (sym (ec ∙ ez)) h in
+    record { says = ex ∙ ap Says (sym ec); answers = rw ea (g .0); fills = λ k. ew ∙ g .1 k }
+
+-- by one that fills no words
+pub asked-none : (x : Said) (p : Plant) (y z c : Call) (b a : Answer) (ws : List ℤ) → x ≡ Says y → y ≡ z → c ≡ y → ws ≡ lentWords → a ≡ b
+    → (Fills (viewCall z) lentWords (result (viewCall z) lentWords p .words) → result (viewCall z) lentWords p .words ≡ lentWords) → Answers (viewCall z) lentWords p b → Asked x p c a ws
+asked-none x p y z c b a ws ex ez ec ew ea f h = asked x p y z c b a lentWords ws ex ez ec ew ea (fills-none p z z refl lentWords lentWords b refl f h)
+
+-- by the one for all that see no field
+pub asked-plain : (x : Said) (p : Plant) (y c : Call) (b a : Answer) (ws : List ℤ) → x ≡ Says y → c ≡ y → ws ≡ lentWords → a ≡ b → isPlain y ≡ true
+    → (isPlain y ≡ true → (lent : List ℤ) → Answers (viewCall y) lent p b) → Asked x p c a ws
+asked-plain x p y c b a ws ex ec ew ea t h = asked x p y y c b a lentWords ws ex refl ec ew ea (plain-answered p y t lentWords b h)
+
 -- ── what a call leaves, in the loop ──
-module _ (x : Said) (c : Call) (ex : x ≡ Says c) (p : Plant) (a : Answer) where
+module _ (c : Call) (p : Plant) (a : Answer) where
   -- by the tables that it writes
-  pub done-by : (y : Call) → c ≡ y → (r : Bool) → r ≡ isRefused (viewAnswer a) → r ≡ false → (q : Plant) → Performs (viewCall y) p q × (plantForm p ≡ true → plantForm q ≡ true) → Done x p a q
+  pub done-by : (y : Call) → c ≡ y → (r : Bool) → r ≡ isRefused (viewAnswer a) → r ≡ false → (q : Plant) → Performs (viewCall y) p q × (plantForm p ≡ true → plantForm q ≡ true) → Done (Says c) p a q
   done-by y e r er h q f =
       let g = left p c y e q f in
       let d = chosen.performed (viewCall c) p q a r er h (g .0) (g .1) in
-      subst (λ z. Done z p a q) (sym ex) (d .0, d .1 .1)
+      (d .0, d .1 .1)
 
   -- by a function over all calls
-  pub done-whole : (q : Plant) → Leaves (viewCall c) p a q × ((plantForm p ≡ true → plantForm q ≡ true) × Keeps (viewCall c) p a q) → Done x p a q
-  done-whole q f = subst (λ z. Done z p a q) (sym ex) (f .0, f .1 .1)
+  pub done-whole : (q : Plant) → Leaves (viewCall c) p a q × ((plantForm p ≡ true → plantForm q ≡ true) × Keeps (viewCall c) p a q) → Done (Says c) p a q
+  done-whole q f = (f .0, f .1 .1)
 
-  -- nothing, where it is refused and its session goes on
-  pub done-nothing : (e : Bool) → e ≡ isEnding (viewAnswer a) → (r : Bool) → r ≡ isRefused (viewAnswer a) → e ≡ false → r ≡ true → Done x p a p
-  done-nothing e ee r er g h = let d = and-keeps (viewCall c) p p a (stays (viewCall c) p a e ee r er g h) (λ f. f) in subst (λ z. Done z p a p) (sym ex) (d .0, d .1 .1)
+  module _ (e : Bool) (ee : e ≡ isEnding (viewAnswer a)) where
+    -- its session ends, where it is refused so
+    pub done-ended : e ≡ true → (q : Plant) → (keptPlant p ≡ true → viewPlant q ≡ ending (sessionOf (viewCall c)) (viewPlant p)) × (plantForm p ≡ true → plantForm q ≡ true) → Done (Says c) p a q
+    done-ended h q f = done-whole q (and-keeps (viewCall c) p q a (ends (viewCall c) p a e ee h q (f .0)) (f .1))
+
+    -- nothing, where it is refused and its session goes on
+    pub done-nothing : (r : Bool) → r ≡ isRefused (viewAnswer a) → e ≡ false → r ≡ true → Done (Says c) p a p
+    done-nothing r er g h = done-whole p (and-keeps (viewCall c) p p a (stays (viewCall c) p a e ee r er g h) (λ f. f))
 
 -- ── the pieces of a piece ──
 pub record Feeding (piece lent : List ℕ) (s : Server) (out : List ℕ) (t : Server) : Type 0 where
   pub long : length out ≡ length lent
   pub within : Within t piece lent
+  pub begun : t .used ≡ 0 → t .wrote ≡ 0
   pub fed : keptServer s ≡ true → Fed s piece out t
 
 take-between : (a b : ℕ) (l : List ℕ) → a ≤ b → take b l ≡ take a l ++ between a b l
@@ -249,16 +284,18 @@ feed-start p kept piece lent =
     record {
       long = refl;
       within = (omega arith, omega arith);
+      begun = λ e. refl;
       fed = λ k. record { feeds = nothing-fed (record { plant = p; pending = kept; used = 0; wrote = 0 }) k; keeps = k };
     }
 
 pub feed-next : (piece lent out out′ : List ℕ) (s t r : Server) → Feeding piece lent s out t → length out′ ≡ length out
-    → (keptServer t ≡ true → Next t piece out out′ r) → Within r piece out → Feeding piece lent s out′ r
-feed-next piece lent out out′ s t r f l n w =
+    → (keptServer t ≡ true → Next t piece out out′ r) → Within r piece out → t .used < r .used → Feeding piece lent s out′ r
+feed-next piece lent out out′ s t r f l n w u =
     let e = f .long in
     record {
       long = l ∙ e;
       within = (w .0, rw (← e) (w .1));
+      begun = λ z. absurd (omega (arith, u, z));
       fed = λ k.
           let x = f .fed k in
           let y = n (x .keeps) in
@@ -282,34 +319,36 @@ module _ (piece lent out : List ℕ) (s t : Server) (f : Feeding piece lent s ou
       → len ≤ length (take (length out - t .wrote) (drop (t .wrote) out)) → Done x (t .plant) a q → Feeding piece lent s lines-out (at q kept (end + 1) (t .wrote + len))
   feed-line l x es a h w d =
       let n = line-fed t piece out end ee ready found q kept ek len part x es a h w d in
-      feed-next piece lent out lines-out s t (at q kept (end + 1) (t .wrote + len)) f l (n .0) (n .1 .0)
+      feed-next piece lent out lines-out s t (at q kept (end + 1) (t .wrote + len)) f l (n .0) (n .1 .0) (n .1 .1)
 
 pub feed-end : (s : Server) (piece lent out : List ℕ) (t : Server) → Feeding piece lent (record { plant = s .plant; pending = s .pending; used = 0; wrote = 0 }) out t
-    → (t .wrote + longest ≤ length lent → t .used ≡ length piece)
-    → (keptServer s ≡ true → Fed s piece out t) × (Within t piece lent × (t .wrote + longest ≤ length lent → t .used ≡ length piece))
-feed-end s piece lent out t f all = (
+    → (t .wrote + longest ≤ length lent → t .used ≡ length piece) → (longest ≤ length lent → t .used ≡ 0 → length piece ≡ 0)
+    → (keptServer s ≡ true → Fed s piece out t) × (Within t piece lent × ((t .wrote + longest ≤ length lent → t .used ≡ length piece) × (longest ≤ length lent → t .used ≡ 0 → length piece ≡ 0)))
+feed-end s piece lent out t f all some = (
   λ k.
       let o = opened s k in
       let x = f .fed (closed (record { plant = s .plant; pending = s .pending; used = 0; wrote = 0 }) (record { plant = o .plant; free = o .free; short = o .short })) in
       record { feeds = x .feeds; keeps = x .keeps },
-  (f .within, all),
+  (f .within, (all, some)),
 )
 
 -- ── the end of input ──
+-- a number that is not 0 is 1 or more
+byOne : (n : ℕ) → (n ≡ 0 → _≡_ {A = ℕ} 1 0) → 1 ≤ n
+byOne zero h = absurd (omega (arith, h refl))
+byOne (suc n) h = omega arith
+
 module _ (s : Server) (e : Bool) (ee : e ≡ isEmpty (viewPending (s .pending))) where
   pub no-last : e ≡ true → (lent : List ℕ) → (longest ≤ length lent → keptServer s ≡ true → Finished s lent (record { plant = s .plant; pending = s .pending; used = 0; wrote = 0 }))
   no-last t lent r k = record { serves = rw (← ee, t) (refl, refl); keeps = opened s k .plant }
 
-  pub last-line : e ≡ false → (lent out none : List ℕ) (len : ℕ) (q : Plant) (kept : Pending) (x : Said) → viewSaid x ≡ said (viewPending (s .pending) ++ between 0 0 none) → (a : Answer)
-      → (longest ≤ length lent → keptPlant (s .plant) ≡ true → Tells x (s .plant) lent out len a) → Done x (s .plant) a q
-      → longest ≤ length lent → keptServer s ≡ true → Finished s out (record { plant = q; pending = kept; used = 0; wrote = len })
-  unfolding serve
-  last-line t lent out none len q kept y ey a h d r k =
+  -- the line that byte 10 would have ended
+  pub last-line : e ≡ false → (lent out : List ℕ) (t : Server) → (keptServer s ≡ true → Fed s (newline ∷ []) out t) → Within t (newline ∷ []) lent → (longest ≤ length lent → t .used ≡ 0 → _≡_ {A = ℕ} 1 0)
+      → longest ≤ length lent → keptServer s ≡ true → Finished s out t
+  last-line h lent out t f w some r k =
+      let x = f k in
       let v = viewPending (s .pending) in
-      let w : v ++ between 0 0 none ≡ v = ap (λ m. v ++ m) (nothing-between 0 none) ∙ append-nil v in
-      let x : Answered (said v) (s .plant) lent out len q = subst (λ z. Answered z (s .plant) lent out len q) (ey ∙ ap said w) (done y (s .plant) q lent out len a d h r (opened s k .plant)) in
-      let bs = performed (said v) (x .pick) (viewPlant (s .plant)) .bytes in
-      let filled : take len out ≡ bs = ap (take len) (x .prints) ∙ take-at bs (drop len lent) len (sym (x .counts)) in
-      let one : Serves (v ∷ []) (viewPlant (s .plant)) (take len out) (viewPlant q) = (x .pick, (x .allowed, ([], (filled ∙ sym (append-nil bs), (refl, x .leaves))))) in
-      let last : lastLine v ≡ v ∷ [] = rw (← ee, t) refl in
-      record { serves = subst (λ ls. Serves ls (viewPlant (s .plant)) (take len out) (viewPlant q)) (sym last) one; keeps = x .keeps }
+      let all : take (t .used) (newline ∷ []) ≡ newline ∷ [] = take-all (t .used) (newline ∷ []) (byOne (t .used) (some r)) in
+      let one : complete (v ++ take (t .used) (newline ∷ [])) ≡ v ∷ [] = ap (λ l. complete (v ++ l)) all ∙ end-complete v [] (opened s k .free) refl [] ∙ ap (λ l. l ∷ []) (append-nil v) in
+      let last : lastLine v ≡ v ∷ [] = rw (← ee, h) refl in
+      record { serves = subst (λ ls. Serves ls (viewPlant (s .plant)) (take (t .wrote) out) (viewPlant (t .plant))) (one ∙ sym last) (x .feeds .serves); keeps = opened t (x .keeps) .plant }

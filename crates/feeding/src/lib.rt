@@ -62,6 +62,7 @@ pub fn feed(s: Server, piece: &[u8], out: &mut [u8]) -> Server
     ensures feeds { λ r. ⌜ (keptServer s ≡ true → Fed s (now (piece .entry)) (now (out .exit)) r) ⌝ }
     ensures within { λ r. ⌜ Within r (now (piece .entry)) (now (out .entry)) ⌝ }
     ensures all { λ r. ⌜ (r .wrote + longest ≤ length (now (out .entry)) → r .used ≡ length (now (piece .entry))) ⌝ }
+    ensures some { λ r. ⌜ (longest ≤ length (now (out .entry)) → r .used ≡ 0 → length (now (piece .entry)) ≡ 0) ⌝ }
 {
     let mut p = s.plant;
     let mut kept = s.pending;
@@ -87,16 +88,25 @@ pub fn feed(s: Server, piece: &[u8], out: &mut [u8]) -> Server
             };
         }
         let said = heard(kept, piece, used, end);
-        let replied = serving::reply(p, said, &mut out[wrote..]);
         kept = Pending::empty();
         used = end + 1;
-        wrote += replied.len;
-        let Said::Says(c) = said else {
-            continue;
+        let c = match said {
+            Said::Says(c) => c,
+            Said::Faulty(r) => {
+                wrote += serving::refuse(r, &mut out[wrote..]);
+                continue;
+            }
         };
-        let a = replied.answer;
+        let mut words = [0i32; serving::WORDS];
+        let a = match c {
+            Call::Read(s, k) => read::answer(p, s, k, &mut words),
+            Call::Change(s, d, f, k, v) => change::answer(p, s, d, f, k, v),
+            _ => dispatch::plain(p, c),
+        };
+        wrote += serving::tell(p.keys, c, a, &words, &mut out[wrote..]);
         if a.ends_session() {
-            p = leaving::after(p, c, a);
+            let sessions = leaving::ended(p, c);
+            p.sessions = sessions;
             continue;
         }
         if a.is_refused() {
@@ -129,6 +139,16 @@ pub fn feed(s: Server, piece: &[u8], out: &mut [u8]) -> Server
                 p.cache = cache;
                 p.sessions = sessions;
             }
+            Call::Advance(n) => {
+                let t = advance::after(p, n);
+                let cache = t.cache;
+                let sessions = t.sessions;
+                let queue = t.queue;
+                p.cache = cache;
+                p.sessions = sessions;
+                p.queue = queue;
+                p.clock = t.clock;
+            }
             Call::Take(w) => {
                 let t = take::after(p, w);
                 let hands = t.hands;
@@ -154,6 +174,14 @@ pub fn feed(s: Server, piece: &[u8], out: &mut [u8]) -> Server
                 p.hands = hands;
                 p.queue = queue;
             }
+            Call::Cut(w) => {
+                let t = cut::after(p, w);
+                let hands = t.hands;
+                let queue = t.queue;
+                p.hands = hands;
+                p.queue = queue;
+            }
+            Call::Report(_) => {}
             _ => p = leaving::after(p, c, a),
         }
     }
@@ -165,16 +193,14 @@ pub fn feed(s: Server, piece: &[u8], out: &mut [u8]) -> Server
     }
 }
 
-// The end of input ends a line that has begun.
+// The end of input ends a line that has begun, as a byte 10 does.
 pub fn finish(s: Server, out: &mut [u8]) -> Server
     ensures serves { λ r. ⌜ (longest ≤ length (now (out .entry)) → keptServer s ≡ true → Finished s (now (out .exit)) r) ⌝ }
     ensures within { λ r. ⌜ r .wrote ≤ length (now (out .entry)) ⌝ }
 {
-    let none = [0u8; 1];
-    let plant = s.plant;
     let kept = s.pending;
-    let pending = Pending::empty();
     if kept.is_empty() {
+        let plant = s.plant;
         return Server {
             plant,
             pending: kept,
@@ -182,22 +208,6 @@ pub fn finish(s: Server, out: &mut [u8]) -> Server
             wrote: 0,
         };
     }
-    let said = heard(kept, &none, 0, 0);
-    let replied = serving::reply(plant, said, out);
-    let Said::Says(c) = said else {
-        return Server {
-            plant,
-            pending,
-            used: 0,
-            wrote: replied.len,
-        };
-    };
-    let a = replied.answer;
-    let left = leaving::after(plant, c, a);
-    Server {
-        plant: left,
-        pending,
-        used: 0,
-        wrote: replied.len,
-    }
+    let end = [b'\n'; 1];
+    feed(s, &end, out)
 }

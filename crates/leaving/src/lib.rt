@@ -12,7 +12,7 @@ use plant::Plant;
 use sessions::Sessions;
 
 // The sessions where the call was refused and that ended its session.
-fn ended(p: Plant, c: Call) -> Sessions
+pub fn ended(p: Plant, c: Call) -> Sessions
     ensures shows { λ r. ⌜ (keptPlant p ≡ true → viewPlant (withSessions p r) ≡ ending (sessionOf (viewCall c)) (viewPlant p)) ⌝ }
     ensures form { λ r. ⌜ (plantForm p ≡ true → plantForm (withSessions p r) ≡ true) ⌝ }
 {

@@ -26,6 +26,7 @@ use Rattle.calls.proofs.Call.{the-type}
 use Rattle.format.specs.Lines.{said, answerLine}
 use Rattle.format.specs.Serving.{lentWords, placesShown, ended, performed}
 use Rattle.keys.specs.View.{viewKeys}
+use Rattle.keys.specs.declared.Keys.{Keys}
 use Rattle.plant.specs.View.{viewPlant, plantForm, keptPlant}
 use Rattle.plant.specs.declared.Plant.{Plant}
 use Rattle.answers.specs.View.{viewRefusal, viewAnswer}
@@ -94,24 +95,23 @@ module _ (p : Plant) (x : Said) (bs lent out : List ℕ) (len : ℕ) (room : lon
       let n : len ≡ length bs = el ∙ fits-taken bs lent fits in
       record { prints = eo ∙ fits-printed bs lent fits ∙ rw (n, eb) refl; counts = n ∙ ap length eb; told = t }
 
-pub replies : (p : Plant) (x : Said) (c : Call) → x ≡ Says c → (a : Answer) (ws : List ℤ) (n : ℕ) (lent out : List ℕ) (len : ℕ)
-    → Answers (viewCall c) lentWords p a → (keptPlant p ≡ true → ws ≡ result (viewCall c) lentWords p .words) → length ws ≡ 32
-    → n ≡ wordsPerField * placesShown (viewCall c) (viewKeys (p .keys))
+-- a call, of every plant on which that is its answer
+pub told : (keys : Keys) (c : Call) (a : Answer) (ws : List ℤ) (n : ℕ) (lent out : List ℕ) (len : ℕ) → n ≡ wordsPerField * placesShown (viewCall c) (viewKeys keys)
     → out ≡ printed (ended (answerLine (viewAnswer a) (take n ws))) lent → len ≡ taken (ended (answerLine (viewAnswer a) (take n ws))) lent
-    → longest ≤ length lent → keptPlant p ≡ true → Tells x p lent out len a
+    → (p : Plant) → p .keys ≡ keys → Answers (viewCall c) lentWords p a → (keptPlant p ≡ true → ws ≡ result (viewCall c) lentWords p .words) → length ws ≡ 32
+    → longest ≤ length lent → keptPlant p ≡ true → Tells (Says c) p lent out len a
 unfolding viewPlant
-replies p x c ex a ws n lent out len answers fills lw en eo el room k =
-    subst (λ y. Tells y p lent out len a) (sym ex)
-    (replied p (Says c) (ended (answerLine (viewAnswer a) (take n ws))) lent out len room (line-short a (take n ws) (rw (length-take n ws, lw) (omega arith)))
-    eo el (rw (answers k, fills k, en) refl) a (answers k))
+told keys c a ws n lent out len en eo el p ek answers fills lw room k =
+    replied p (Says c) (ended (answerLine (viewAnswer a) (take n ws))) lent out len room (line-short a (take n ws) (rw (length-take n ws, lw) (omega arith)))
+    eo el (rw (answers k, fills k, en, ← ek) refl) a (answers k)
 
-pub refuses : (p : Plant) (x : Said) (r : Refusal) → x ≡ Faulty r → (ws : List ℤ) (lent out : List ℕ) (len : ℕ) → length ws ≤ 0
+-- a line that says none
+pub refuses : (r : Refusal) (ws : List ℤ) (lent out : List ℕ) (len : ℕ) → length ws ≤ 0
     → out ≡ printed (ended (answerLine (C.refused (viewRefusal r)) ws)) lent → len ≡ taken (ended (answerLine (C.refused (viewRefusal r)) ws)) lent
-    → longest ≤ length lent → keptPlant p ≡ true → Tells x p lent out len (answer.Refused r)
+    → (p : Plant) → longest ≤ length lent → keptPlant p ≡ true → Tells (Faulty r) p lent out len (answer.Refused r)
 unfolding answerLine
-refuses p x r ex ws lent out len lw eo el room k =
-    subst (λ y. Tells y p lent out len (answer.Refused r)) (sym ex)
-    (replied p (Faulty r) (ended (answerLine (C.refused (viewRefusal r)) ws)) lent out len room (line-short (answer.Refused r) ws (omega (arith, lw))) eo el refl (answer.Refused r) tt)
+refuses r ws lent out len lw eo el p room k =
+    replied p (Faulty r) (ended (answerLine (C.refused (viewRefusal r)) ws)) lent out len room (line-short (answer.Refused r) ws (omega (arith, lw))) eo el refl (answer.Refused r) tt
 
 -- ── and done ──
 allowed-here : (p : Plant) → keptPlant p ≡ true → Allowed (chosen (viewPlant p)) (viewPlant p)
@@ -139,9 +139,9 @@ Promised line lent out len p q =
     × ((length lent < longest → (q ≡ p) × ((len ≡ 0) × (out ≡ lent))) × (len ≤ length lent))
 
 pub serves : (line lent out : List ℕ) (len : ℕ) (p q : Plant) (x y : Said) → x ≡ y → viewSaid x ≡ said line → longest ≤ length lent → len ≤ length lent → (a : Answer)
-    → (longest ≤ length lent → keptPlant p ≡ true → Tells x p lent out len a) → Done y p a q → Promised line lent out len p q
+    → (longest ≤ length lent → keptPlant p ≡ true → Tells y p lent out len a) → Done y p a q → Promised line lent out len p q
 serves line lent out len p q x y e es room l a h d =
-    (λ r k. subst (λ s. Answered s p lent out len q) es (done x p q lent out len a (subst (λ s. Done s p a q) (sym e) d) h r k), (λ f. absurd (omega (arith, f, room)), l))
+    (λ r k. subst (λ s. Answered s p lent out len q) (ap viewSaid (sym e) ∙ es) (done y p q lent out len a d h r k), (λ f. absurd (omega (arith, f, room)), l))
 
 pub too-few : (line lent : List ℕ) (p : Plant) (len : ℕ) → len ≡ 0 → length lent < longest → Promised line lent lent len p p
 too-few line lent p len e h = (λ r k. absurd (omega (arith, r, h)), (λ l. (refl, (e, refl)), omega (arith, e)))

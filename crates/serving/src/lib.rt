@@ -5,13 +5,18 @@ ghost use mathlib.Core.Bool.{true};
 ghost use lib.ListN.{length};
 ghost use Rattle.rules.specs.Limits.{wordsPerField};
 ghost use Rattle.format.specs.Lines.{said};
-ghost use Rattle.format.specs.Serving.{placesShown};
+ghost use Rattle.format.specs.Serving.{placesShown, lentWords};
 ghost use Rattle.calls.specs.View.{viewCall};
 ghost use Rattle.keys.specs.View.{viewKeys};
 ghost use Rattle.plant.specs.View.{keptPlant};
+ghost use Rattle.plant.specs.declared.Plant.{Plant};
+ghost use Rattle.answers.specs.declared.Answer.the-variants.{Refused};
+ghost use Rattle.lines.specs.declared.Said.the-variants.{Says, Faulty};
+ghost use Rattle.promises.specs.Promise.{result, Answers};
 ghost use Rattle.printing.specs.Line.{longest};
 ghost use Rattle.serving.specs.Answered.{Answered, Tells};
 use answers::Answer;
+use answers::Refusal;
 use calls::Call;
 use keys::Keys;
 use lines::Said;
@@ -20,17 +25,11 @@ use plant::Plant;
 const WORDS_PER_FIELD: usize = 8;
 
 // The words of the longest key.
-const WORDS: usize = 32;
+pub const WORDS: usize = 32;
 
 // The plant left, and how many bytes were printed.
 pub struct Served {
     pub plant: Plant,
-    pub len: usize,
-}
-
-// What is answered, and how many bytes were printed.
-pub struct Replied {
-    pub answer: Answer,
     pub len: usize,
 }
 
@@ -49,28 +48,22 @@ fn shown(keys: Keys, c: Call) -> usize
     WORDS_PER_FIELD * key.len() as usize
 }
 
-// Answers what a line says, and prints the answer's line. The plant is only asked.
-pub fn reply(p: Plant, said: Said, out: &mut [u8]) -> Replied
-    ensures replies { λ r. ⌜ (longest ≤ length (now (out .entry)) → keptPlant p ≡ true → Tells said p (now (out .entry)) (now (out .exit)) (r .len) (r .answer)) ⌝ }
-    ensures within { λ r. ⌜ r .len ≤ length (now (out .entry)) ⌝ }
+// Prints what a call answers, with the words that it shows: of every plant with these keys on which that is the answer.
+pub fn tell(keys: Keys, c: Call, a: Answer, words: &[i32], out: &mut [u8]) -> usize
+    ensures tells { λ r. ⌜ ((p : Plant) → p .keys ≡ keys → Answers (viewCall c) lentWords p a → (keptPlant p ≡ true → now (words .entry) ≡ result (viewCall c) lentWords p .words) → length (now (words .entry)) ≡ 32 → longest ≤ length (now (out .entry)) → keptPlant p ≡ true → Tells (Says c) p (now (out .entry)) (now (out .exit)) r a) ⌝ }
+    ensures within { λ r. ⌜ r ≤ length (now (out .entry)) ⌝ }
 {
-    let mut words = [0i32; WORDS];
-    match said {
-        Said::Says(c) => {
-            let answer = dispatch::answer(p, c, &mut words);
-            let n = shown(p.keys, c);
-            let len = printing::answer(answer, &words, n, out);
-            Replied { answer, len }
-        }
-        Said::Faulty(r) => {
-            let refused = Answer::Refused(r);
-            let len = printing::answer(refused, &words, 0, out);
-            Replied {
-                answer: refused,
-                len,
-            }
-        }
-    }
+    let n = shown(keys, c);
+    printing::answer(a, words, n, out)
+}
+
+// Prints the refusal of a line that says no call.
+pub fn refuse(r: Refusal, out: &mut [u8]) -> usize
+    ensures tells { λ n. ⌜ ((p : Plant) → longest ≤ length (now (out .entry)) → keptPlant p ≡ true → Tells (Faulty r) p (now (out .entry)) (now (out .exit)) n (Refused r)) ⌝ }
+    ensures within { λ n. ⌜ n ≤ length (now (out .entry)) ⌝ }
+{
+    let none = [0i32; 1];
+    printing::answer(Answer::Refused(r), &none, 0, out)
 }
 
 // Where too few bytes are lent for any answer nothing is done, and 0 bytes are printed.
@@ -83,14 +76,17 @@ pub fn serve(p: Plant, line: &[u8], out: &mut [u8]) -> Served
         return Served { plant: p, len: 0 };
     }
     let said = lines::parse(line);
-    let replied = reply(p, said, out);
-    let len = replied.len;
     match said {
         Said::Says(c) => {
-            let answer = replied.answer;
+            let mut words = [0i32; WORDS];
+            let answer = dispatch::answer(p, c, &mut words);
+            let len = tell(p.keys, c, answer, &words, out);
             let plant = leaving::after(p, c, answer);
             Served { plant, len }
         }
-        Said::Faulty(_) => Served { plant: p, len },
+        Said::Faulty(r) => {
+            let len = refuse(r, out);
+            Served { plant: p, len }
+        }
     }
 }

@@ -1,15 +1,25 @@
--- `feed` meets its contract.
-use Prim.Native.Nat.{_-_}
+-- `feed` meets its contract. What holds of a line is said once, at the place where its end is found (`Line`) and at the place where its answer
+-- is printed (`Printed`); each way back to the loop's head adds what its call leaves.
+use Prim.Native.Nat.{ℕ, _-_, _<_, _+_, _≤_}
 use native.Mathlib.Omega.{arith}
-use mathlib.Core.Path.{refl, sym, subst}
+use mathlib.Core.Path.{_≡_, refl, sym, _∙_, ap}
+use mathlib.Core.Logic.{⊎-elim}
 use mathlib.Core.List.{[]}
 use lib.ListN.{length}
+use borrow.Rule.Slice.PartMut.{putMid}
 use borrow.Author.Needs.{needs}
-use Rattle.calls.specs.declared.Call.the-variants.{Read, Change, Commit, Take, Apply, Delete}
+use Rattle.calls.specs.declared.Call.the-variants.{Read, Change, Commit, Advance, Take, Apply, Delete, Cut}
 use Rattle.calls.proofs.Back.{back1, back2, back5}
+use Rattle.lines.specs.View.{viewSaid}
+use Rattle.lines.specs.declared.Said.the-variants.{Says, Faulty}
+use Rattle.answers.specs.declared.Answer.the-variants.{Refused}
+use Rattle.plant.specs.declared.Plant.{Plant}
+use Rattle.report.proofs.Laws.{performs}
+use Rattle.dispatch.proofs.Laws.{not-seeing}
 use Rattle.serving.proofs.Laws.{Done}
 use Rattle.feeding.specs.Fed.{Ready}
-use Rattle.feeding.proofs.Laws.{Feeding, at, feed-start, feed-next, feed-line, feed-end, line-inside, no-line, more-wrote, done-by, done-whole, done-nothing}
+use Rattle.feeding.specs.declared.Server.{Server}
+use Rattle.feeding.proofs.Laws.{Feeding, at, feed-start, feed-next, feed-line, feed-end, line-inside, no-line, more-wrote, Asked, asked, asked-none, asked-plain, done-by, done-whole, done-ended, done-nothing}
 use Rattle.feeding.proofs.feed.Statement.{statement}
 use Rattle.feeding.proofs.feed.Tie as tie
 
@@ -18,6 +28,26 @@ Inv-loop piece out₀ p₀ kept₀ used₀ wrote₀ out p kept used wrote = Feed
 
 abbrev μ-loop : tie.MeasureT-loop
 μ-loop piece out₀ p₀ kept₀ used₀ wrote₀ out p kept used wrote = length piece - used
+
+-- ── where a line's end is sought ──
+abbrev Sought : Type 0
+Sought = tie.After-line-end Inv-loop μ-loop
+
+abbrev server : Sought → Server
+server c = at (c .before .before .before .loop .p) (c .before .before .before .loop .kept) (c .before .before .before .loop .used) (c .before .before .before .loop .wrote)
+
+ready : (c : Sought) → Ready (server c) (c .before .before .before .before .before .before .before .before .args .piece .now) (c .before .before .before .loop .out)
+ready c = let f = c .before .before .before .loop .inv in (c .before .before .loop-test .taken, omega (arith, c .before .if1 .left, f .within .1, f .long))
+
+inside : (c : Sought) → (c .before .before .before .loop .used ≤ c .line-end .result) × (c .line-end .result ≤ length (c .before .before .before .before .before .before .before .before .args .piece .now))
+inside c = line-inside (server c) (c .before .before .before .before .before .before .before .before .args .piece .now) (c .before .before .before .loop .out) _ (c .line-end .ensures) (ready c)
+
+-- ── where byte 10 ends it ──
+abbrev Line : Type 0
+Line = tie.Else2 Inv-loop μ-loop
+
+less : (c : Line) → length (c .before .before .before .before .before .before .before .before .before .args .piece .now) - (c .before .line-end .result + 1) < length (c .before .before .before .before .before .before .before .before .before .args .piece .now) - c .before .before .before .before .loop .used
+less c = let l = inside (c .before) in omega (arith, l .0, l .1, c .if2 .left)
 
 loop-holds : tie.Need-loop-holds Inv-loop μ-loop
 loop-holds c = feed-start _ _ _ _
@@ -29,7 +59,10 @@ same-length : tie.Need-same-length Inv-loop μ-loop
 same-length c = search (c .before .before .loop .inv .long, needs)
 
 returns : tie.Need-returns Inv-loop μ-loop
-returns c = let f = c .before .before .loop .inv in feed-end (c .before .before .before .before .before .before .before .args .s) _ _ _ _ f (λ r. absurd (omega (arith, r, f .long, f .within .1, c .if1 .taken)))
+returns c =
+    let f = c .before .before .loop .inv in
+    feed-end (c .before .before .before .before .before .before .before .args .s) _ _ _ _ f (λ r. absurd (omega (arith, r, f .long, f .within .1, c .if1 .taken)))
+    (λ r e. absurd (omega (arith, r, f .begun e, f .long, c .if1 .taken)))
 
 line-end-requires : tie.Need-line-end-requires Inv-loop μ-loop
 line-end-requires c κs = search needs
@@ -43,27 +76,12 @@ same-length-2 c = search (c .before .before .before .before .before .loop .inv .
 returns-2 : tie.Need-returns-2 Inv-loop μ-loop
 returns-2 c =
     let f = c .before .before .before .before .before .loop .inv in
-    let ready : Ready (at (c .before .before .before .before .before .loop .p) (c .before .before .before .before .before .loop .kept) (c .before .before .before .before .before .loop .used) (c .before .before .before .before .before .loop .wrote)) (c .before .before .before .before .before .before .before .before .before .before .args .piece .now) (c .before .before .before .before .before .loop .out) = (c .before .before .before .before .loop-test .taken, omega (arith, c .before .before .before .if1 .left, f .within .1, f .long)) in
-    let n = no-line (at (c .before .before .before .before .before .loop .p) (c .before .before .before .before .before .loop .kept) (c .before .before .before .before .before .loop .used) (c .before .before .before .before .before .loop .wrote)) (c .before .before .before .before .before .before .before .before .before .before .args .piece .now) (c .before .before .before .before .before .loop .out) _ (c .before .before .line-end .ensures) ready (c .before .if2 .taken) _ (c .add .ensures .0) in
-    feed-end (c .before .before .before .before .before .before .before .before .before .before .args .s) _ _ _ _ (feed-next _ _ _ _ _ (at (c .before .before .before .before .before .loop .p) (c .before .before .before .before .before .loop .kept) (c .before .before .before .before .before .loop .used) (c .before .before .before .before .before .loop .wrote)) _ f refl (n .0) (n .1 .0)) (λ r. omega (arith, n .1 .0 .0, c .before .if2 .taken))
+    let n = no-line (server (c .before .before)) (c .before .before .before .before .before .before .before .before .before .before .args .piece .now) (c .before .before .before .before .before .loop .out) _ (c .before .before .line-end .ensures) (ready (c .before .before)) (c .before .if2 .taken) _ (c .add .ensures .0) in
+    feed-end (c .before .before .before .before .before .before .before .before .before .before .args .s) _ _ _ _ (feed-next _ _ _ _ _ (server (c .before .before)) _ f refl (n .0) (n .1 .0) (n .1 .1)) (λ r. omega (arith, n .1 .0 .0, c .before .if2 .taken))
+    (λ r e. absurd (omega (arith, n .1 .1, e)))
 
 heard-requires : tie.Need-heard-requires Inv-loop μ-loop
-heard-requires c κs =
-    let f = c .before .before .before .before .loop .inv in
-    let ready : Ready (at (c .before .before .before .before .loop .p) (c .before .before .before .before .loop .kept) (c .before .before .before .before .loop .used) (c .before .before .before .before .loop .wrote)) (c .before .before .before .before .before .before .before .before .before .args .piece .now) (c .before .before .before .before .loop .out) = (c .before .before .before .loop-test .taken, omega (arith, c .before .before .if1 .left, f .within .1, f .long)) in
-    line-inside (at (c .before .before .before .before .loop .p) (c .before .before .before .before .loop .kept) (c .before .before .before .before .loop .used) (c .before .before .before .before .loop .wrote)) (c .before .before .before .before .before .before .before .before .before .args .piece .now) (c .before .before .before .before .loop .out) _ (c .before .line-end .ensures) ready
-
-sub-reply : tie.Need-sub-reply Inv-loop μ-loop
-sub-reply c = let f = c .before .before .before .before .before .loop .inv in search (f .within .1, f .long, needs)
-
-part-reply-start : tie.Need-part-reply-start Inv-loop μ-loop
-part-reply-start c = let f = c .before .before .before .before .before .loop .inv in search (f .within .1, f .long, needs)
-
-part-reply-end : tie.Need-part-reply-end Inv-loop μ-loop
-part-reply-end c = search needs
-
-reply-requires : tie.Need-reply-requires Inv-loop μ-loop
-reply-requires c κs = search needs
+heard-requires c κs = inside (c .before)
 
 empty-requires : tie.Need-empty-requires Inv-loop μ-loop
 empty-requires c κs = search needs
@@ -71,233 +89,257 @@ empty-requires c κs = search needs
 add-used : tie.Need-add-used Inv-loop μ-loop
 add-used c = search needs
 
-add-wrote : tie.Need-add-wrote Inv-loop μ-loop
-add-wrote c =
-    let f = c .before .before .before .before .before .before .before .before .before .before .before .loop .inv in
-    let ready : Ready (at (c .before .before .before .before .before .before .before .before .before .before .before .loop .p) (c .before .before .before .before .before .before .before .before .before .before .before .loop .kept) (c .before .before .before .before .before .before .before .before .before .before .before .loop .used) (c .before .before .before .before .before .before .before .before .before .before .before .loop .wrote)) (c .before .before .before .before .before .before .before .before .before .before .before .before .before .before .before .before .args .piece .now) (c .before .before .before .before .before .before .before .before .before .before .before .loop .out) = (c .before .before .before .before .before .before .before .before .before .before .loop-test .taken, omega (arith, c .before .before .before .before .before .before .before .before .before .if1 .left, f .within .1, f .long)) in
-    let l = more-wrote (at (c .before .before .before .before .before .before .before .before .before .before .before .loop .p) (c .before .before .before .before .before .before .before .before .before .before .before .loop .kept) (c .before .before .before .before .before .before .before .before .before .before .before .loop .used) (c .before .before .before .before .before .before .before .before .before .before .before .loop .wrote)) (c .before .before .before .before .before .before .before .before .before .before .before .before .before .before .before .before .args .piece .now) (c .before .before .before .before .before .before .before .before .before .before .before .loop .out) _ (c .before .before .before .before .before .before .before .before .line-end .ensures) ready (c .before .before .before .before .before .before .before .if2 .left) (c .before .before .before .before .before .before .before .before .before .before .before .loop .p) (c .before .empty .result) (c .before .empty .ensures .0) (c .before .before .before .before .reply .result .len) [] (c .before .before .before .before .reply .ensures .1) in
-    let g = c .before .before .before .before .before .before .before .before .before .before .before .before .before .before .before .before .good .1 .1 .0 in
-    record { fits = omega (arith, l, f .long, g .0, g .1) }
-
 enum-known-said : tie.Need-enum-known-said Inv-loop μ-loop
 enum-known-said c = search needs
 
-enum-told : tie.Need-enum-told Inv-loop μ-loop
-enum-told c = search needs
+enum-known-said-2 : tie.Need-enum-known-said-2 Inv-loop μ-loop
+enum-known-said-2 c = search needs
+
+-- ── a line that says no call ──
+sub-refuse : tie.Need-sub-refuse Inv-loop μ-loop
+sub-refuse c = let f = c .before .before .before .before .before .before .before .before .before .loop .inv in search (f .within .1, f .long, needs)
+
+part-refuse-start : tie.Need-part-refuse-start Inv-loop μ-loop
+part-refuse-start c = let f = c .before .before .before .before .before .before .before .before .before .loop .inv in search (f .within .1, f .long, needs)
+
+part-refuse-end : tie.Need-part-refuse-end Inv-loop μ-loop
+part-refuse-end c = search needs
+
+refuse-requires : tie.Need-refuse-requires Inv-loop μ-loop
+refuse-requires c κs = search needs
+
+add-wrote : tie.Need-add-wrote Inv-loop μ-loop
+add-wrote c =
+    let l = more-wrote (server (c .before .before .before .before .before .before .before .before .before .before)) (c .before .before .before .before .before .before .before .before .before .before .before .before .before .before .before .before .before .before .args .piece .now) (c .before .before .before .before .before .before .before .before .before .before .before .before .before .loop .out) _ (c .before .before .before .before .before .before .before .before .before .before .line-end .ensures) (ready (c .before .before .before .before .before .before .before .before .before .before)) (c .before .before .before .before .before .before .before .before .before .if2 .left) (c .before .before .before .before .before .before .before .before .before .before .before .before .before .loop .p) (c .before .before .before .before .before .before .before .empty .result) (c .before .before .before .before .before .before .before .empty .ensures .0) (c .before .before .refuse .result) [] (c .before .before .refuse .ensures .1) in
+    let g = c .before .before .before .before .before .before .before .before .before .before .before .before .before .before .before .before .before .before .good .1 .1 .0 in
+    record { fits = omega (arith, l, c .before .before .before .before .before .before .before .before .before .before .before .before .before .loop .inv .long, g .0, g .1) }
 
 loop-less : tie.Need-loop-less Inv-loop μ-loop
-loop-less c =
-    let f = c .before .before .before .before .before .before .before .before .before .before .before .before .before .loop .inv in
-    let ready : Ready (at (c .before .before .before .before .before .before .before .before .before .before .before .before .before .loop .p) (c .before .before .before .before .before .before .before .before .before .before .before .before .before .loop .kept) (c .before .before .before .before .before .before .before .before .before .before .before .before .before .loop .used) (c .before .before .before .before .before .before .before .before .before .before .before .before .before .loop .wrote)) (c .before .before .before .before .before .before .before .before .before .before .before .before .before .before .before .before .before .before .args .piece .now) (c .before .before .before .before .before .before .before .before .before .before .before .before .before .loop .out) = (c .before .before .before .before .before .before .before .before .before .before .before .before .loop-test .taken, omega (arith, c .before .before .before .before .before .before .before .before .before .before .before .if1 .left, f .within .1, f .long)) in
-    let l = line-inside (at (c .before .before .before .before .before .before .before .before .before .before .before .before .before .loop .p) (c .before .before .before .before .before .before .before .before .before .before .before .before .before .loop .kept) (c .before .before .before .before .before .before .before .before .before .before .before .before .before .loop .used) (c .before .before .before .before .before .before .before .before .before .before .before .before .before .loop .wrote)) (c .before .before .before .before .before .before .before .before .before .before .before .before .before .before .before .before .before .before .args .piece .now) (c .before .before .before .before .before .before .before .before .before .before .before .before .before .loop .out) _ (c .before .before .before .before .before .before .before .before .before .before .line-end .ensures) ready in
-    omega (arith, l .0, l .1, c .before .before .before .before .before .before .before .before .before .if2 .left)
+loop-less c = less (c .before .before .before .before .before .before .before .before .before)
 
 loop-again : tie.Need-loop-again Inv-loop μ-loop
 loop-again c =
-    let f = c .before .before .before .before .before .before .before .before .before .before .before .before .before .loop .inv in
-    let ready : Ready (at (c .before .before .before .before .before .before .before .before .before .before .before .before .before .loop .p) (c .before .before .before .before .before .before .before .before .before .before .before .before .before .loop .kept) (c .before .before .before .before .before .before .before .before .before .before .before .before .before .loop .used) (c .before .before .before .before .before .before .before .before .before .before .before .before .before .loop .wrote)) (c .before .before .before .before .before .before .before .before .before .before .before .before .before .before .before .before .before .before .args .piece .now) (c .before .before .before .before .before .before .before .before .before .before .before .before .before .loop .out) = (c .before .before .before .before .before .before .before .before .before .before .before .before .loop-test .taken, omega (arith, c .before .before .before .before .before .before .before .before .before .before .before .if1 .left, f .within .1, f .long)) in
-    feed-line _ _ _ _ (at (c .before .before .before .before .before .before .before .before .before .before .before .before .before .loop .p) (c .before .before .before .before .before .before .before .before .before .before .before .before .before .loop .kept) (c .before .before .before .before .before .before .before .before .before .before .before .before .before .loop .used) (c .before .before .before .before .before .before .before .before .before .before .before .before .before .loop .wrote)) f _ (c .before .before .before .before .before .before .before .before .before .before .line-end .ensures) ready (c .before .before .before .before .before .before .before .before .before .if2 .left) _ _ (c .before .before .before .empty .ensures .0) _ _ (search needs) (c .before .before .before .before .before .before .before .before .heard .result) (c .before .before .before .before .before .before .before .before .heard .ensures) (c .before .before .before .before .before .before .reply .result .answer) (c .before .before .before .before .before .before .reply .ensures .0) (c .before .before .before .before .before .before .reply .ensures .1)
-    (subst (λ y. Done y (c .before .before .before .before .before .before .before .before .before .before .before .before .before .loop .p) (c .before .before .before .before .before .before .reply .result .answer) (c .before .before .before .before .before .before .before .before .before .before .before .before .before .loop .p)) (sym (c .enum-told .given .1)) refl)
+    feed-line _ _ _ _ (server (c .before .before .before .before .before .before .before .before .before .before)) (c .before .before .before .before .before .before .before .before .before .before .before .before .before .loop .inv) _ (c .before .before .before .before .before .before .before .before .before .before .line-end .ensures) (ready (c .before .before .before .before .before .before .before .before .before .before)) (c .before .before .before .before .before .before .before .before .before .if2 .left) (c .before .before .before .before .before .before .before .before .before .before .before .before .before .loop .p) (c .before .before .before .before .before .before .before .empty .result) (c .before .before .before .before .before .before .before .empty .ensures .0) _ _
+    (search (c .before .out .given, c .slice-known2 .given, c .before .before .refuse, needs)) (Faulty _) (ap viewSaid (sym (c .before .before .before .before .before .said2 .given .1)) ∙ c .before .before .before .before .before .before .before .before .heard .ensures) (Refused _) (c .before .before .refuse .ensures .0 (c .before .before .before .before .before .before .before .before .before .before .before .before .before .loop .p)) (c .before .before .refuse .ensures .1) refl
+
+-- ── what is answered ──
+enum-known-c : tie.Need-enum-known-c Inv-loop μ-loop
+enum-known-c c = search needs
+
+slice-aggregate-answer : tie.Need-slice-aggregate-answer Inv-loop μ-loop
+slice-aggregate-answer c = search needs
+
+answer-requires : tie.Need-answer-requires Inv-loop μ-loop
+answer-requires c κs = search needs
+
+enum-known-c-2 : tie.Need-enum-known-c-2 Inv-loop μ-loop
+enum-known-c-2 c = search needs
+
+answer-requires-2 : tie.Need-answer-requires-2 Inv-loop μ-loop
+answer-requires-2 c κs = search needs
+
+plain-requires : tie.Need-plain-requires Inv-loop μ-loop
+plain-requires c κs = search needs
+
+question : (c : tie.At-match2-came Inv-loop μ-loop) → Asked (c .before .before .before .before .before .heard .result) (c .before .before .before .before .before .before .before .before .before .before .loop .p) (c .match2 .c) (c .match2 .a) (c .match2 .words)
+question c =
+    let p = c .before .before .before .before .before .before .before .before .before .before .loop .p in
+    ⊎-elim (λ w. asked _ p _ _ _ _ _ _ _ (c .before .before .said .given .1) (back2 Read _ _ (w .1 .given .1) (search needs) (search needs)) (w .6 ∙ sym (w .1 .given .1)) (w .7) (w .8) (w .4 .ensures))
+    (⊎-elim (λ w. asked-none _ p _ _ _ _ _ _ (c .before .before .said .given .1) (back5 Change _ _ _ _ _ (w .1 .given .1) (search needs) (search needs) (search needs) (search needs) (search needs)) (w .4 ∙ sym (w .1 .given .1)) (w .5) (w .6) (λ h. h) (w .3 .ensures _))
+    (λ w. asked-plain _ p _ _ _ _ _ (c .before .before .said .given .1) (w .2) (w .3) (w .4) (not-seeing (c .before .before .said .given .0 .0) (w .0 .keys3)) (w .1 .ensures))) (c .match2 .came)
+
+-- ── and printed ──
+counted : (c : tie.At-match2-came Inv-loop μ-loop) → length (c .match2 .words) ≡ 32
+counted c = ⊎-elim (λ w. rw (w .7) (search (w .5 .given, needs))) (⊎-elim (λ w. rw (w .5) refl) (λ w. rw (w .3) refl)) (c .match2 .came)
+
+slice-aggregate-tell : tie.Need-slice-aggregate-tell Inv-loop μ-loop
+slice-aggregate-tell c = search (counted (c .before), needs)
+
+sub-tell : tie.Need-sub-tell Inv-loop μ-loop
+sub-tell c = let f = c .before .before .before .before .before .before .before .before .before .before .before .loop .inv in search (f .within .1, f .long, needs)
+
+part-tell-start : tie.Need-part-tell-start Inv-loop μ-loop
+part-tell-start c = let f = c .before .before .before .before .before .before .before .before .before .before .before .loop .inv in search (f .within .1, f .long, needs)
+
+part-tell-end : tie.Need-part-tell-end Inv-loop μ-loop
+part-tell-end c = search needs
+
+tell-requires : tie.Need-tell-requires Inv-loop μ-loop
+tell-requires c κs = search needs
+
+add-wrote-2 : tie.Need-add-wrote-2 Inv-loop μ-loop
+add-wrote-2 c =
+    let l = more-wrote (server (c .before .before .before .before .before .before .before .before .before .before .before .before)) (c .before .before .before .before .before .before .before .before .before .before .before .before .before .before .before .before .before .before .before .before .args .piece .now) (c .before .before .before .before .before .before .before .before .before .before .before .before .before .before .before .loop .out) _ (c .before .before .before .before .before .before .before .before .before .before .before .before .line-end .ensures) (ready (c .before .before .before .before .before .before .before .before .before .before .before .before)) (c .before .before .before .before .before .before .before .before .before .before .before .if2 .left) (c .before .before .before .before .before .before .before .before .before .before .before .before .before .before .before .loop .p) (c .before .before .before .before .before .before .before .before .before .empty .result) (c .before .before .before .before .before .before .before .before .before .empty .ensures .0) (c .before .before .tell .result) [] (c .before .before .tell .ensures .1) in
+    let g = c .before .before .before .before .before .before .before .before .before .before .before .before .before .before .before .before .before .before .before .before .good .1 .1 .0 in
+    record { fits = omega (arith, l, c .before .before .before .before .before .before .before .before .before .before .before .before .before .before .before .loop .inv .long, g .0, g .1) }
+
+-- ── where the answer is printed ──
+abbrev Printed : Type 0
+Printed = tie.After-slice-known3 Inv-loop μ-loop
+
+again : (c : Printed) (q : Plant) → Done (Says (c .before .before .before .before .before .match2 .c)) (c .before .before .before .before .before .before .before .before .before .before .before .before .before .before .before .loop .p) (c .before .before .before .before .before .match2 .a) q
+    → Feeding (c .before .before .before .before .before .before .before .before .before .before .before .before .before .before .before .before .before .before .before .before .args .piece .now) (c .before .before .before .before .before .before .before .before .before .before .before .before .before .before .before .before .before .before .before .before .args .out .now) (at (c .before .before .before .before .before .before .before .before .before .before .before .before .before .before .before .before .before .before .before .before .args .s .plant) (c .before .before .before .before .before .before .before .before .before .before .before .before .before .before .before .before .before .before .before .before .args .s .pending) 0 0)
+    (putMid (c .before .before .before .before .before .before .before .before .before .before .before .before .before .before .before .loop .wrote) (length (c .before .before .before .before .before .before .before .before .before .before .before .before .before .before .before .loop .out) - c .before .before .before .before .before .before .before .before .before .before .before .before .before .before .before .loop .wrote) (c .before .before .before .before .before .before .before .before .before .before .before .before .before .before .before .loop .out) (c .before .before .tell .last .1 .1 .1 .1 .0))
+    (at q (c .before .before .before .before .before .before .before .before .before .empty .result) (c .before .before .before .before .before .before .before .before .before .before .before .before .line-end .result + 1) (c .before .before .before .before .before .before .before .before .before .before .before .before .before .before .before .loop .wrote + c .before .before .tell .result))
+again c q d =
+    let f = question (c .before .before .before .before .before) in
+    feed-line _ _ _ _ (server (c .before .before .before .before .before .before .before .before .before .before .before .before)) (c .before .before .before .before .before .before .before .before .before .before .before .before .before .before .before .loop .inv) _ (c .before .before .before .before .before .before .before .before .before .before .before .before .line-end .ensures) (ready (c .before .before .before .before .before .before .before .before .before .before .before .before)) (c .before .before .before .before .before .before .before .before .before .before .before .if2 .left) q (c .before .before .before .before .before .before .before .before .before .empty .result) (c .before .before .before .before .before .before .before .before .before .empty .ensures .0) (c .before .before .tell .result) _
+    (search (c .before .out2 .given, c .slice-known3 .given, c .before .before .tell, needs)) (Says (c .before .before .before .before .before .match2 .c)) (ap viewSaid (sym (f .says)) ∙ c .before .before .before .before .before .before .before .before .before .before .heard .ensures) (c .before .before .before .before .before .match2 .a) (c .before .before .tell .ensures .0 (c .before .before .before .before .before .before .before .before .before .before .before .before .before .before .before .loop .p) refl (f .answers) (f .fills) (counted (c .before .before .before .before .before))) (c .before .before .tell .ensures .1) d
 
 ends-session-requires : tie.Need-ends-session-requires Inv-loop μ-loop
 ends-session-requires c κs = search needs
 
-after-requires : tie.Need-after-requires Inv-loop μ-loop
-after-requires c κs = search needs
+ended-requires : tie.Need-ended-requires Inv-loop μ-loop
+ended-requires c κs = search needs
 
 loop-less-2 : tie.Need-loop-less-2 Inv-loop μ-loop
-loop-less-2 c =
-    let f = c .before .before .before .before .before .before .before .before .before .before .before .before .before .before .before .before .before .loop .inv in
-    let ready : Ready (at (c .before .before .before .before .before .before .before .before .before .before .before .before .before .before .before .before .before .loop .p) (c .before .before .before .before .before .before .before .before .before .before .before .before .before .before .before .before .before .loop .kept) (c .before .before .before .before .before .before .before .before .before .before .before .before .before .before .before .before .before .loop .used) (c .before .before .before .before .before .before .before .before .before .before .before .before .before .before .before .before .before .loop .wrote)) (c .before .before .before .before .before .before .before .before .before .before .before .before .before .before .before .before .before .before .before .before .before .before .args .piece .now) (c .before .before .before .before .before .before .before .before .before .before .before .before .before .before .before .before .before .loop .out) = (c .before .before .before .before .before .before .before .before .before .before .before .before .before .before .before .before .loop-test .taken, omega (arith, c .before .before .before .before .before .before .before .before .before .before .before .before .before .before .before .if1 .left, f .within .1, f .long)) in
-    let l = line-inside (at (c .before .before .before .before .before .before .before .before .before .before .before .before .before .before .before .before .before .loop .p) (c .before .before .before .before .before .before .before .before .before .before .before .before .before .before .before .before .before .loop .kept) (c .before .before .before .before .before .before .before .before .before .before .before .before .before .before .before .before .before .loop .used) (c .before .before .before .before .before .before .before .before .before .before .before .before .before .before .before .before .before .loop .wrote)) (c .before .before .before .before .before .before .before .before .before .before .before .before .before .before .before .before .before .before .before .before .before .before .args .piece .now) (c .before .before .before .before .before .before .before .before .before .before .before .before .before .before .before .before .before .loop .out) _ (c .before .before .before .before .before .before .before .before .before .before .before .before .before .before .line-end .ensures) ready in
-    omega (arith, l .0, l .1, c .before .before .before .before .before .before .before .before .before .before .before .before .before .if2 .left)
+loop-less-2 c = less (c .before .before .before .before .before .before .before .before .before .before .before .before .before .before)
 
 loop-again-2 : tie.Need-loop-again-2 Inv-loop μ-loop
-loop-again-2 c =
-    let f = c .before .before .before .before .before .before .before .before .before .before .before .before .before .before .before .before .before .loop .inv in
-    let ready : Ready (at (c .before .before .before .before .before .before .before .before .before .before .before .before .before .before .before .before .before .loop .p) (c .before .before .before .before .before .before .before .before .before .before .before .before .before .before .before .before .before .loop .kept) (c .before .before .before .before .before .before .before .before .before .before .before .before .before .before .before .before .before .loop .used) (c .before .before .before .before .before .before .before .before .before .before .before .before .before .before .before .before .before .loop .wrote)) (c .before .before .before .before .before .before .before .before .before .before .before .before .before .before .before .before .before .before .before .before .before .before .args .piece .now) (c .before .before .before .before .before .before .before .before .before .before .before .before .before .before .before .before .before .loop .out) = (c .before .before .before .before .before .before .before .before .before .before .before .before .before .before .before .before .loop-test .taken, omega (arith, c .before .before .before .before .before .before .before .before .before .before .before .before .before .before .before .if1 .left, f .within .1, f .long)) in
-    feed-line _ _ _ _ (at (c .before .before .before .before .before .before .before .before .before .before .before .before .before .before .before .before .before .loop .p) (c .before .before .before .before .before .before .before .before .before .before .before .before .before .before .before .before .before .loop .kept) (c .before .before .before .before .before .before .before .before .before .before .before .before .before .before .before .before .before .loop .used) (c .before .before .before .before .before .before .before .before .before .before .before .before .before .before .before .before .before .loop .wrote)) f _ (c .before .before .before .before .before .before .before .before .before .before .before .before .before .before .line-end .ensures) ready (c .before .before .before .before .before .before .before .before .before .before .before .before .before .if2 .left) _ _ (c .before .before .before .before .before .before .before .empty .ensures .0) _ _ (search needs) (c .before .before .before .before .before .before .before .before .before .before .before .before .heard .result) (c .before .before .before .before .before .before .before .before .before .before .before .before .heard .ensures) (c .before .before .before .before .before .before .before .before .before .before .reply .result .answer) (c .before .before .before .before .before .before .before .before .before .before .reply .ensures .0) (c .before .before .before .before .before .before .before .before .before .before .reply .ensures .1)
-    (done-whole (c .before .before .before .before .before .before .before .before .before .before .before .before .heard .result) _ (c .before .before .before .before .said .given .1) (c .before .before .before .before .before .before .before .before .before .before .before .before .before .before .before .before .before .loop .p) (c .before .before .before .before .before .before .before .before .before .before .reply .result .answer) _ (c .after .ensures))
+loop-again-2 c = again (c .before .before .before) _ (done-ended (c .before .before .before .before .before .before .before .before .match2 .c) (c .before .before .before .before .before .before .before .before .before .before .before .before .before .before .before .before .before .before .loop .p) (c .before .before .before .before .before .before .before .before .match2 .a) _ (c .before .before .ends-session .ensures) (c .before .if3 .taken) _ (c .ended .ensures))
 
 is-refused-requires : tie.Need-is-refused-requires Inv-loop μ-loop
 is-refused-requires c κs = search needs
 
 loop-less-3 : tie.Need-loop-less-3 Inv-loop μ-loop
-loop-less-3 c =
-    let f = c .before .before .before .before .before .before .before .before .before .before .before .before .before .before .before .before .before .before .loop .inv in
-    let ready : Ready (at (c .before .before .before .before .before .before .before .before .before .before .before .before .before .before .before .before .before .before .loop .p) (c .before .before .before .before .before .before .before .before .before .before .before .before .before .before .before .before .before .before .loop .kept) (c .before .before .before .before .before .before .before .before .before .before .before .before .before .before .before .before .before .before .loop .used) (c .before .before .before .before .before .before .before .before .before .before .before .before .before .before .before .before .before .before .loop .wrote)) (c .before .before .before .before .before .before .before .before .before .before .before .before .before .before .before .before .before .before .before .before .before .before .before .args .piece .now) (c .before .before .before .before .before .before .before .before .before .before .before .before .before .before .before .before .before .before .loop .out) = (c .before .before .before .before .before .before .before .before .before .before .before .before .before .before .before .before .before .loop-test .taken, omega (arith, c .before .before .before .before .before .before .before .before .before .before .before .before .before .before .before .before .if1 .left, f .within .1, f .long)) in
-    let l = line-inside (at (c .before .before .before .before .before .before .before .before .before .before .before .before .before .before .before .before .before .before .loop .p) (c .before .before .before .before .before .before .before .before .before .before .before .before .before .before .before .before .before .before .loop .kept) (c .before .before .before .before .before .before .before .before .before .before .before .before .before .before .before .before .before .before .loop .used) (c .before .before .before .before .before .before .before .before .before .before .before .before .before .before .before .before .before .before .loop .wrote)) (c .before .before .before .before .before .before .before .before .before .before .before .before .before .before .before .before .before .before .before .before .before .before .before .args .piece .now) (c .before .before .before .before .before .before .before .before .before .before .before .before .before .before .before .before .before .before .loop .out) _ (c .before .before .before .before .before .before .before .before .before .before .before .before .before .before .before .line-end .ensures) ready in
-    omega (arith, l .0, l .1, c .before .before .before .before .before .before .before .before .before .before .before .before .before .before .if2 .left)
+loop-less-3 c = less (c .before .before .before .before .before .before .before .before .before .before .before .before .before .before .before)
 
 loop-again-3 : tie.Need-loop-again-3 Inv-loop μ-loop
-loop-again-3 c =
-    let f = c .before .before .before .before .before .before .before .before .before .before .before .before .before .before .before .before .before .before .loop .inv in
-    let ready : Ready (at (c .before .before .before .before .before .before .before .before .before .before .before .before .before .before .before .before .before .before .loop .p) (c .before .before .before .before .before .before .before .before .before .before .before .before .before .before .before .before .before .before .loop .kept) (c .before .before .before .before .before .before .before .before .before .before .before .before .before .before .before .before .before .before .loop .used) (c .before .before .before .before .before .before .before .before .before .before .before .before .before .before .before .before .before .before .loop .wrote)) (c .before .before .before .before .before .before .before .before .before .before .before .before .before .before .before .before .before .before .before .before .before .before .before .args .piece .now) (c .before .before .before .before .before .before .before .before .before .before .before .before .before .before .before .before .before .before .loop .out) = (c .before .before .before .before .before .before .before .before .before .before .before .before .before .before .before .before .before .loop-test .taken, omega (arith, c .before .before .before .before .before .before .before .before .before .before .before .before .before .before .before .before .if1 .left, f .within .1, f .long)) in
-    feed-line _ _ _ _ (at (c .before .before .before .before .before .before .before .before .before .before .before .before .before .before .before .before .before .before .loop .p) (c .before .before .before .before .before .before .before .before .before .before .before .before .before .before .before .before .before .before .loop .kept) (c .before .before .before .before .before .before .before .before .before .before .before .before .before .before .before .before .before .before .loop .used) (c .before .before .before .before .before .before .before .before .before .before .before .before .before .before .before .before .before .before .loop .wrote)) f _ (c .before .before .before .before .before .before .before .before .before .before .before .before .before .before .before .line-end .ensures) ready (c .before .before .before .before .before .before .before .before .before .before .before .before .before .before .if2 .left) _ _ (c .before .before .before .before .before .before .before .before .empty .ensures .0) _ _ (search needs) (c .before .before .before .before .before .before .before .before .before .before .before .before .before .heard .result) (c .before .before .before .before .before .before .before .before .before .before .before .before .before .heard .ensures) (c .before .before .before .before .before .before .before .before .before .before .before .reply .result .answer) (c .before .before .before .before .before .before .before .before .before .before .before .reply .ensures .0) (c .before .before .before .before .before .before .before .before .before .before .before .reply .ensures .1)
-    (done-nothing (c .before .before .before .before .before .before .before .before .before .before .before .before .before .heard .result) _ (c .before .before .before .before .before .said .given .1) (c .before .before .before .before .before .before .before .before .before .before .before .before .before .before .before .before .before .before .loop .p) (c .before .before .before .before .before .before .before .before .before .before .before .reply .result .answer) _ (c .before .before .before .ends-session .ensures) _ (c .before .is-refused .ensures) (c .before .before .if3 .left) (c .if4 .taken))
+loop-again-3 c = again (c .before .before .before .before) _ (done-nothing (c .before .before .before .before .before .before .before .before .before .match2 .c) (c .before .before .before .before .before .before .before .before .before .before .before .before .before .before .before .before .before .before .before .loop .p) (c .before .before .before .before .before .before .before .before .before .match2 .a) _ (c .before .before .before .ends-session .ensures) _ (c .before .is-refused .ensures) (c .before .before .if3 .left) (c .if4 .taken))
 
-enum-told-2 : tie.Need-enum-told-2 Inv-loop μ-loop
-enum-told-2 c = search needs
+enum-told : tie.Need-enum-told Inv-loop μ-loop
+enum-told c = search needs
 
-after-requires-2 : tie.Need-after-requires-2 Inv-loop μ-loop
-after-requires-2 c κs = search needs
+after-requires : tie.Need-after-requires Inv-loop μ-loop
+after-requires c κs = search needs
 
 loop-less-4 : tie.Need-loop-less-4 Inv-loop μ-loop
-loop-less-4 c =
-    let f = c .before .before .before .before .before .before .before .before .before .before .before .before .before .before .before .before .before .before .before .before .before .before .loop .inv in
-    let ready : Ready (at (c .before .before .before .before .before .before .before .before .before .before .before .before .before .before .before .before .before .before .before .before .before .before .loop .p) (c .before .before .before .before .before .before .before .before .before .before .before .before .before .before .before .before .before .before .before .before .before .before .loop .kept) (c .before .before .before .before .before .before .before .before .before .before .before .before .before .before .before .before .before .before .before .before .before .before .loop .used) (c .before .before .before .before .before .before .before .before .before .before .before .before .before .before .before .before .before .before .before .before .before .before .loop .wrote)) (c .before .before .before .before .before .before .before .before .before .before .before .before .before .before .before .before .before .before .before .before .before .before .before .before .before .before .before .args .piece .now) (c .before .before .before .before .before .before .before .before .before .before .before .before .before .before .before .before .before .before .before .before .before .before .loop .out) = (c .before .before .before .before .before .before .before .before .before .before .before .before .before .before .before .before .before .before .before .before .before .loop-test .taken, omega (arith, c .before .before .before .before .before .before .before .before .before .before .before .before .before .before .before .before .before .before .before .before .if1 .left, f .within .1, f .long)) in
-    let l = line-inside (at (c .before .before .before .before .before .before .before .before .before .before .before .before .before .before .before .before .before .before .before .before .before .before .loop .p) (c .before .before .before .before .before .before .before .before .before .before .before .before .before .before .before .before .before .before .before .before .before .before .loop .kept) (c .before .before .before .before .before .before .before .before .before .before .before .before .before .before .before .before .before .before .before .before .before .before .loop .used) (c .before .before .before .before .before .before .before .before .before .before .before .before .before .before .before .before .before .before .before .before .before .before .loop .wrote)) (c .before .before .before .before .before .before .before .before .before .before .before .before .before .before .before .before .before .before .before .before .before .before .before .before .before .before .before .args .piece .now) (c .before .before .before .before .before .before .before .before .before .before .before .before .before .before .before .before .before .before .before .before .before .before .loop .out) _ (c .before .before .before .before .before .before .before .before .before .before .before .before .before .before .before .before .before .before .before .line-end .ensures) ready in
-    omega (arith, l .0, l .1, c .before .before .before .before .before .before .before .before .before .before .before .before .before .before .before .before .before .before .if2 .left)
+loop-less-4 c = less (c .before .before .before .before .before .before .before .before .before .before .before .before .before .before .before .before .before .before .before)
 
 loop-again-4 : tie.Need-loop-again-4 Inv-loop μ-loop
-loop-again-4 c =
-    let f = c .before .before .before .before .before .before .before .before .before .before .before .before .before .before .before .before .before .before .before .before .before .before .loop .inv in
-    let ready : Ready (at (c .before .before .before .before .before .before .before .before .before .before .before .before .before .before .before .before .before .before .before .before .before .before .loop .p) (c .before .before .before .before .before .before .before .before .before .before .before .before .before .before .before .before .before .before .before .before .before .before .loop .kept) (c .before .before .before .before .before .before .before .before .before .before .before .before .before .before .before .before .before .before .before .before .before .before .loop .used) (c .before .before .before .before .before .before .before .before .before .before .before .before .before .before .before .before .before .before .before .before .before .before .loop .wrote)) (c .before .before .before .before .before .before .before .before .before .before .before .before .before .before .before .before .before .before .before .before .before .before .before .before .before .before .before .args .piece .now) (c .before .before .before .before .before .before .before .before .before .before .before .before .before .before .before .before .before .before .before .before .before .before .loop .out) = (c .before .before .before .before .before .before .before .before .before .before .before .before .before .before .before .before .before .before .before .before .before .loop-test .taken, omega (arith, c .before .before .before .before .before .before .before .before .before .before .before .before .before .before .before .before .before .before .before .before .if1 .left, f .within .1, f .long)) in
-    feed-line _ _ _ _ (at (c .before .before .before .before .before .before .before .before .before .before .before .before .before .before .before .before .before .before .before .before .before .before .loop .p) (c .before .before .before .before .before .before .before .before .before .before .before .before .before .before .before .before .before .before .before .before .before .before .loop .kept) (c .before .before .before .before .before .before .before .before .before .before .before .before .before .before .before .before .before .before .before .before .before .before .loop .used) (c .before .before .before .before .before .before .before .before .before .before .before .before .before .before .before .before .before .before .before .before .before .before .loop .wrote)) f _ (c .before .before .before .before .before .before .before .before .before .before .before .before .before .before .before .before .before .before .before .line-end .ensures) ready (c .before .before .before .before .before .before .before .before .before .before .before .before .before .before .before .before .before .before .if2 .left) _ _ (c .before .before .before .before .before .before .before .before .before .before .before .before .empty .ensures .0) _ _ (search needs) (c .before .before .before .before .before .before .before .before .before .before .before .before .before .before .before .before .before .heard .result) (c .before .before .before .before .before .before .before .before .before .before .before .before .before .before .before .before .before .heard .ensures) (c .before .before .before .before .before .before .before .before .before .before .before .before .before .before .before .reply .result .answer) (c .before .before .before .before .before .before .before .before .before .before .before .before .before .before .before .reply .ensures .0) (c .before .before .before .before .before .before .before .before .before .before .before .before .before .before .before .reply .ensures .1)
-    (done-by (c .before .before .before .before .before .before .before .before .before .before .before .before .before .before .before .before .before .heard .result) _ (c .before .before .before .before .before .before .before .before .before .said .given .1) (c .before .before .before .before .before .before .before .before .before .before .before .before .before .before .before .before .before .before .before .before .before .before .loop .p) (c .before .before .before .before .before .before .before .before .before .before .before .before .before .before .before .reply .result .answer) _ (c .before .before .enum-told2 .given .1) _ (c .before .before .before .before .before .is-refused .ensures) (c .before .before .before .before .if4 .left) _ (c .before .after2 .ensures))
-
-enum-known-c : tie.Need-enum-known-c Inv-loop μ-loop
-enum-known-c c = search needs
-
-after-requires-3 : tie.Need-after-requires-3 Inv-loop μ-loop
-after-requires-3 c κs = search needs
-
-loop-less-5 : tie.Need-loop-less-5 Inv-loop μ-loop
-loop-less-5 c =
-    let f = c .before .before .before .before .before .before .before .before .before .before .before .before .before .before .before .before .before .before .before .before .before .before .before .before .loop .inv in
-    let ready : Ready (at (c .before .before .before .before .before .before .before .before .before .before .before .before .before .before .before .before .before .before .before .before .before .before .before .before .loop .p) (c .before .before .before .before .before .before .before .before .before .before .before .before .before .before .before .before .before .before .before .before .before .before .before .before .loop .kept) (c .before .before .before .before .before .before .before .before .before .before .before .before .before .before .before .before .before .before .before .before .before .before .before .before .loop .used) (c .before .before .before .before .before .before .before .before .before .before .before .before .before .before .before .before .before .before .before .before .before .before .before .before .loop .wrote)) (c .before .before .before .before .before .before .before .before .before .before .before .before .before .before .before .before .before .before .before .before .before .before .before .before .before .before .before .before .before .args .piece .now) (c .before .before .before .before .before .before .before .before .before .before .before .before .before .before .before .before .before .before .before .before .before .before .before .before .loop .out) = (c .before .before .before .before .before .before .before .before .before .before .before .before .before .before .before .before .before .before .before .before .before .before .before .loop-test .taken, omega (arith, c .before .before .before .before .before .before .before .before .before .before .before .before .before .before .before .before .before .before .before .before .before .before .if1 .left, f .within .1, f .long)) in
-    let l = line-inside (at (c .before .before .before .before .before .before .before .before .before .before .before .before .before .before .before .before .before .before .before .before .before .before .before .before .loop .p) (c .before .before .before .before .before .before .before .before .before .before .before .before .before .before .before .before .before .before .before .before .before .before .before .before .loop .kept) (c .before .before .before .before .before .before .before .before .before .before .before .before .before .before .before .before .before .before .before .before .before .before .before .before .loop .used) (c .before .before .before .before .before .before .before .before .before .before .before .before .before .before .before .before .before .before .before .before .before .before .before .before .loop .wrote)) (c .before .before .before .before .before .before .before .before .before .before .before .before .before .before .before .before .before .before .before .before .before .before .before .before .before .before .before .before .before .args .piece .now) (c .before .before .before .before .before .before .before .before .before .before .before .before .before .before .before .before .before .before .before .before .before .before .before .before .loop .out) _ (c .before .before .before .before .before .before .before .before .before .before .before .before .before .before .before .before .before .before .before .before .before .line-end .ensures) ready in
-    omega (arith, l .0, l .1, c .before .before .before .before .before .before .before .before .before .before .before .before .before .before .before .before .before .before .before .before .if2 .left)
-
-loop-again-5 : tie.Need-loop-again-5 Inv-loop μ-loop
-loop-again-5 c =
-    let f = c .before .before .before .before .before .before .before .before .before .before .before .before .before .before .before .before .before .before .before .before .before .before .before .before .loop .inv in
-    let ready : Ready (at (c .before .before .before .before .before .before .before .before .before .before .before .before .before .before .before .before .before .before .before .before .before .before .before .before .loop .p) (c .before .before .before .before .before .before .before .before .before .before .before .before .before .before .before .before .before .before .before .before .before .before .before .before .loop .kept) (c .before .before .before .before .before .before .before .before .before .before .before .before .before .before .before .before .before .before .before .before .before .before .before .before .loop .used) (c .before .before .before .before .before .before .before .before .before .before .before .before .before .before .before .before .before .before .before .before .before .before .before .before .loop .wrote)) (c .before .before .before .before .before .before .before .before .before .before .before .before .before .before .before .before .before .before .before .before .before .before .before .before .before .before .before .before .before .args .piece .now) (c .before .before .before .before .before .before .before .before .before .before .before .before .before .before .before .before .before .before .before .before .before .before .before .before .loop .out) = (c .before .before .before .before .before .before .before .before .before .before .before .before .before .before .before .before .before .before .before .before .before .before .before .loop-test .taken, omega (arith, c .before .before .before .before .before .before .before .before .before .before .before .before .before .before .before .before .before .before .before .before .before .before .if1 .left, f .within .1, f .long)) in
-    feed-line _ _ _ _ (at (c .before .before .before .before .before .before .before .before .before .before .before .before .before .before .before .before .before .before .before .before .before .before .before .before .loop .p) (c .before .before .before .before .before .before .before .before .before .before .before .before .before .before .before .before .before .before .before .before .before .before .before .before .loop .kept) (c .before .before .before .before .before .before .before .before .before .before .before .before .before .before .before .before .before .before .before .before .before .before .before .before .loop .used) (c .before .before .before .before .before .before .before .before .before .before .before .before .before .before .before .before .before .before .before .before .before .before .before .before .loop .wrote)) f _ (c .before .before .before .before .before .before .before .before .before .before .before .before .before .before .before .before .before .before .before .before .before .line-end .ensures) ready (c .before .before .before .before .before .before .before .before .before .before .before .before .before .before .before .before .before .before .before .before .if2 .left) _ _ (c .before .before .before .before .before .before .before .before .before .before .before .before .before .before .empty .ensures .0) _ _ (search needs) (c .before .before .before .before .before .before .before .before .before .before .before .before .before .before .before .before .before .before .before .heard .result) (c .before .before .before .before .before .before .before .before .before .before .before .before .before .before .before .before .before .before .before .heard .ensures) (c .before .before .before .before .before .before .before .before .before .before .before .before .before .before .before .before .before .reply .result .answer) (c .before .before .before .before .before .before .before .before .before .before .before .before .before .before .before .before .before .reply .ensures .0) (c .before .before .before .before .before .before .before .before .before .before .before .before .before .before .before .before .before .reply .ensures .1)
-    (done-by (c .before .before .before .before .before .before .before .before .before .before .before .before .before .before .before .before .before .before .before .heard .result) _ (c .before .before .before .before .before .before .before .before .before .before .before .said .given .1) (c .before .before .before .before .before .before .before .before .before .before .before .before .before .before .before .before .before .before .before .before .before .before .before .before .loop .p) (c .before .before .before .before .before .before .before .before .before .before .before .before .before .before .before .before .before .reply .result .answer) _ (back2 Read _ _ (c .before .before .before .before .c .given .1) (search needs) (search needs)) _ (c .before .before .before .before .before .before .before .is-refused .ensures) (c .before .before .before .before .before .before .if4 .left) _ (c .before .before .after3 .ensures))
-
-enum-known-c-2 : tie.Need-enum-known-c-2 Inv-loop μ-loop
-enum-known-c-2 c = search needs
-
-after-requires-4 : tie.Need-after-requires-4 Inv-loop μ-loop
-after-requires-4 c κs = search needs
-
-loop-less-6 : tie.Need-loop-less-6 Inv-loop μ-loop
-loop-less-6 c =
-    let f = c .before .before .before .before .before .before .before .before .before .before .before .before .before .before .before .before .before .before .before .before .before .before .loop .inv in
-    let ready : Ready (at (c .before .before .before .before .before .before .before .before .before .before .before .before .before .before .before .before .before .before .before .before .before .before .loop .p) (c .before .before .before .before .before .before .before .before .before .before .before .before .before .before .before .before .before .before .before .before .before .before .loop .kept) (c .before .before .before .before .before .before .before .before .before .before .before .before .before .before .before .before .before .before .before .before .before .before .loop .used) (c .before .before .before .before .before .before .before .before .before .before .before .before .before .before .before .before .before .before .before .before .before .before .loop .wrote)) (c .before .before .before .before .before .before .before .before .before .before .before .before .before .before .before .before .before .before .before .before .before .before .before .before .before .before .before .args .piece .now) (c .before .before .before .before .before .before .before .before .before .before .before .before .before .before .before .before .before .before .before .before .before .before .loop .out) = (c .before .before .before .before .before .before .before .before .before .before .before .before .before .before .before .before .before .before .before .before .before .loop-test .taken, omega (arith, c .before .before .before .before .before .before .before .before .before .before .before .before .before .before .before .before .before .before .before .before .if1 .left, f .within .1, f .long)) in
-    let l = line-inside (at (c .before .before .before .before .before .before .before .before .before .before .before .before .before .before .before .before .before .before .before .before .before .before .loop .p) (c .before .before .before .before .before .before .before .before .before .before .before .before .before .before .before .before .before .before .before .before .before .before .loop .kept) (c .before .before .before .before .before .before .before .before .before .before .before .before .before .before .before .before .before .before .before .before .before .before .loop .used) (c .before .before .before .before .before .before .before .before .before .before .before .before .before .before .before .before .before .before .before .before .before .before .loop .wrote)) (c .before .before .before .before .before .before .before .before .before .before .before .before .before .before .before .before .before .before .before .before .before .before .before .before .before .before .before .args .piece .now) (c .before .before .before .before .before .before .before .before .before .before .before .before .before .before .before .before .before .before .before .before .before .before .loop .out) _ (c .before .before .before .before .before .before .before .before .before .before .before .before .before .before .before .before .before .before .before .line-end .ensures) ready in
-    omega (arith, l .0, l .1, c .before .before .before .before .before .before .before .before .before .before .before .before .before .before .before .before .before .before .if2 .left)
-
-loop-again-6 : tie.Need-loop-again-6 Inv-loop μ-loop
-loop-again-6 c =
-    let f = c .before .before .before .before .before .before .before .before .before .before .before .before .before .before .before .before .before .before .before .before .before .before .loop .inv in
-    let ready : Ready (at (c .before .before .before .before .before .before .before .before .before .before .before .before .before .before .before .before .before .before .before .before .before .before .loop .p) (c .before .before .before .before .before .before .before .before .before .before .before .before .before .before .before .before .before .before .before .before .before .before .loop .kept) (c .before .before .before .before .before .before .before .before .before .before .before .before .before .before .before .before .before .before .before .before .before .before .loop .used) (c .before .before .before .before .before .before .before .before .before .before .before .before .before .before .before .before .before .before .before .before .before .before .loop .wrote)) (c .before .before .before .before .before .before .before .before .before .before .before .before .before .before .before .before .before .before .before .before .before .before .before .before .before .before .before .args .piece .now) (c .before .before .before .before .before .before .before .before .before .before .before .before .before .before .before .before .before .before .before .before .before .before .loop .out) = (c .before .before .before .before .before .before .before .before .before .before .before .before .before .before .before .before .before .before .before .before .before .loop-test .taken, omega (arith, c .before .before .before .before .before .before .before .before .before .before .before .before .before .before .before .before .before .before .before .before .if1 .left, f .within .1, f .long)) in
-    feed-line _ _ _ _ (at (c .before .before .before .before .before .before .before .before .before .before .before .before .before .before .before .before .before .before .before .before .before .before .loop .p) (c .before .before .before .before .before .before .before .before .before .before .before .before .before .before .before .before .before .before .before .before .before .before .loop .kept) (c .before .before .before .before .before .before .before .before .before .before .before .before .before .before .before .before .before .before .before .before .before .before .loop .used) (c .before .before .before .before .before .before .before .before .before .before .before .before .before .before .before .before .before .before .before .before .before .before .loop .wrote)) f _ (c .before .before .before .before .before .before .before .before .before .before .before .before .before .before .before .before .before .before .before .line-end .ensures) ready (c .before .before .before .before .before .before .before .before .before .before .before .before .before .before .before .before .before .before .if2 .left) _ _ (c .before .before .before .before .before .before .before .before .before .before .before .before .empty .ensures .0) _ _ (search needs) (c .before .before .before .before .before .before .before .before .before .before .before .before .before .before .before .before .before .heard .result) (c .before .before .before .before .before .before .before .before .before .before .before .before .before .before .before .before .before .heard .ensures) (c .before .before .before .before .before .before .before .before .before .before .before .before .before .before .before .reply .result .answer) (c .before .before .before .before .before .before .before .before .before .before .before .before .before .before .before .reply .ensures .0) (c .before .before .before .before .before .before .before .before .before .before .before .before .before .before .before .reply .ensures .1)
-    (done-by (c .before .before .before .before .before .before .before .before .before .before .before .before .before .before .before .before .before .heard .result) _ (c .before .before .before .before .before .before .before .before .before .said .given .1) (c .before .before .before .before .before .before .before .before .before .before .before .before .before .before .before .before .before .before .before .before .before .before .loop .p) (c .before .before .before .before .before .before .before .before .before .before .before .before .before .before .before .reply .result .answer) _ (back5 Change _ _ _ _ _ (c .before .before .c2 .given .1) (search needs) (search needs) (search needs) (search needs) (search needs)) _ (c .before .before .before .before .before .is-refused .ensures) (c .before .before .before .before .if4 .left) _ (c .after4 .ensures))
+loop-again-4 c = again (c .before .before .before .before .before .before .before .before) _ (done-by (c .before .before .before .before .before .before .before .before .before .before .before .before .before .match2 .c) (c .before .before .before .before .before .before .before .before .before .before .before .before .before .before .before .before .before .before .before .before .before .before .before .loop .p) (c .before .before .before .before .before .before .before .before .before .before .before .before .before .match2 .a) _ (c .before .before .enum-told .given .1) _ (c .before .before .before .before .before .is-refused .ensures) (c .before .before .before .before .if4 .left) _ (c .before .after .ensures))
 
 enum-known-c-3 : tie.Need-enum-known-c-3 Inv-loop μ-loop
 enum-known-c-3 c = search needs
 
-after-requires-5 : tie.Need-after-requires-5 Inv-loop μ-loop
-after-requires-5 c κs = search needs
+after-requires-2 : tie.Need-after-requires-2 Inv-loop μ-loop
+after-requires-2 c κs = search needs
 
-loop-less-7 : tie.Need-loop-less-7 Inv-loop μ-loop
-loop-less-7 c =
-    let f = c .before .before .before .before .before .before .before .before .before .before .before .before .before .before .before .before .before .before .before .before .before .before .before .before .before .loop .inv in
-    let ready : Ready (at (c .before .before .before .before .before .before .before .before .before .before .before .before .before .before .before .before .before .before .before .before .before .before .before .before .before .loop .p) (c .before .before .before .before .before .before .before .before .before .before .before .before .before .before .before .before .before .before .before .before .before .before .before .before .before .loop .kept) (c .before .before .before .before .before .before .before .before .before .before .before .before .before .before .before .before .before .before .before .before .before .before .before .before .before .loop .used) (c .before .before .before .before .before .before .before .before .before .before .before .before .before .before .before .before .before .before .before .before .before .before .before .before .before .loop .wrote)) (c .before .before .before .before .before .before .before .before .before .before .before .before .before .before .before .before .before .before .before .before .before .before .before .before .before .before .before .before .before .before .args .piece .now) (c .before .before .before .before .before .before .before .before .before .before .before .before .before .before .before .before .before .before .before .before .before .before .before .before .before .loop .out) = (c .before .before .before .before .before .before .before .before .before .before .before .before .before .before .before .before .before .before .before .before .before .before .before .before .loop-test .taken, omega (arith, c .before .before .before .before .before .before .before .before .before .before .before .before .before .before .before .before .before .before .before .before .before .before .before .if1 .left, f .within .1, f .long)) in
-    let l = line-inside (at (c .before .before .before .before .before .before .before .before .before .before .before .before .before .before .before .before .before .before .before .before .before .before .before .before .before .loop .p) (c .before .before .before .before .before .before .before .before .before .before .before .before .before .before .before .before .before .before .before .before .before .before .before .before .before .loop .kept) (c .before .before .before .before .before .before .before .before .before .before .before .before .before .before .before .before .before .before .before .before .before .before .before .before .before .loop .used) (c .before .before .before .before .before .before .before .before .before .before .before .before .before .before .before .before .before .before .before .before .before .before .before .before .before .loop .wrote)) (c .before .before .before .before .before .before .before .before .before .before .before .before .before .before .before .before .before .before .before .before .before .before .before .before .before .before .before .before .before .before .args .piece .now) (c .before .before .before .before .before .before .before .before .before .before .before .before .before .before .before .before .before .before .before .before .before .before .before .before .before .loop .out) _ (c .before .before .before .before .before .before .before .before .before .before .before .before .before .before .before .before .before .before .before .before .before .before .line-end .ensures) ready in
-    omega (arith, l .0, l .1, c .before .before .before .before .before .before .before .before .before .before .before .before .before .before .before .before .before .before .before .before .before .if2 .left)
+loop-less-5 : tie.Need-loop-less-5 Inv-loop μ-loop
+loop-less-5 c = less (c .before .before .before .before .before .before .before .before .before .before .before .before .before .before .before .before .before .before .before .before .before)
 
-loop-again-7 : tie.Need-loop-again-7 Inv-loop μ-loop
-loop-again-7 c =
-    let f = c .before .before .before .before .before .before .before .before .before .before .before .before .before .before .before .before .before .before .before .before .before .before .before .before .before .loop .inv in
-    let ready : Ready (at (c .before .before .before .before .before .before .before .before .before .before .before .before .before .before .before .before .before .before .before .before .before .before .before .before .before .loop .p) (c .before .before .before .before .before .before .before .before .before .before .before .before .before .before .before .before .before .before .before .before .before .before .before .before .before .loop .kept) (c .before .before .before .before .before .before .before .before .before .before .before .before .before .before .before .before .before .before .before .before .before .before .before .before .before .loop .used) (c .before .before .before .before .before .before .before .before .before .before .before .before .before .before .before .before .before .before .before .before .before .before .before .before .before .loop .wrote)) (c .before .before .before .before .before .before .before .before .before .before .before .before .before .before .before .before .before .before .before .before .before .before .before .before .before .before .before .before .before .before .args .piece .now) (c .before .before .before .before .before .before .before .before .before .before .before .before .before .before .before .before .before .before .before .before .before .before .before .before .before .loop .out) = (c .before .before .before .before .before .before .before .before .before .before .before .before .before .before .before .before .before .before .before .before .before .before .before .before .loop-test .taken, omega (arith, c .before .before .before .before .before .before .before .before .before .before .before .before .before .before .before .before .before .before .before .before .before .before .before .if1 .left, f .within .1, f .long)) in
-    feed-line _ _ _ _ (at (c .before .before .before .before .before .before .before .before .before .before .before .before .before .before .before .before .before .before .before .before .before .before .before .before .before .loop .p) (c .before .before .before .before .before .before .before .before .before .before .before .before .before .before .before .before .before .before .before .before .before .before .before .before .before .loop .kept) (c .before .before .before .before .before .before .before .before .before .before .before .before .before .before .before .before .before .before .before .before .before .before .before .before .before .loop .used) (c .before .before .before .before .before .before .before .before .before .before .before .before .before .before .before .before .before .before .before .before .before .before .before .before .before .loop .wrote)) f _ (c .before .before .before .before .before .before .before .before .before .before .before .before .before .before .before .before .before .before .before .before .before .before .line-end .ensures) ready (c .before .before .before .before .before .before .before .before .before .before .before .before .before .before .before .before .before .before .before .before .before .if2 .left) _ _ (c .before .before .before .before .before .before .before .before .before .before .before .before .before .before .before .empty .ensures .0) _ _ (search needs) (c .before .before .before .before .before .before .before .before .before .before .before .before .before .before .before .before .before .before .before .before .heard .result) (c .before .before .before .before .before .before .before .before .before .before .before .before .before .before .before .before .before .before .before .before .heard .ensures) (c .before .before .before .before .before .before .before .before .before .before .before .before .before .before .before .before .before .before .reply .result .answer) (c .before .before .before .before .before .before .before .before .before .before .before .before .before .before .before .before .before .before .reply .ensures .0) (c .before .before .before .before .before .before .before .before .before .before .before .before .before .before .before .before .before .before .reply .ensures .1)
-    (done-by (c .before .before .before .before .before .before .before .before .before .before .before .before .before .before .before .before .before .before .before .before .heard .result) _ (c .before .before .before .before .before .before .before .before .before .before .before .before .said .given .1) (c .before .before .before .before .before .before .before .before .before .before .before .before .before .before .before .before .before .before .before .before .before .before .before .before .before .loop .p) (c .before .before .before .before .before .before .before .before .before .before .before .before .before .before .before .before .before .before .reply .result .answer) _ (back1 Commit _ (c .before .before .before .before .before .c3 .given .1) (search needs)) _ (c .before .before .before .before .before .before .before .before .is-refused .ensures) (c .before .before .before .before .before .before .before .if4 .left) _ (c .before .before .before .after5 .ensures))
+loop-again-5 : tie.Need-loop-again-5 Inv-loop μ-loop
+loop-again-5 c = again (c .before .before .before .before .before .before .before .before .before .before) _ (done-by (c .before .before .before .before .before .before .before .before .before .before .before .before .before .before .before .match2 .c) (c .before .before .before .before .before .before .before .before .before .before .before .before .before .before .before .before .before .before .before .before .before .before .before .before .before .loop .p) (c .before .before .before .before .before .before .before .before .before .before .before .before .before .before .before .match2 .a) _ (back2 Read _ _ (c .before .before .before .before .c3 .given .1) (search needs) (search needs)) _ (c .before .before .before .before .before .before .before .is-refused .ensures) (c .before .before .before .before .before .before .if4 .left) _ (c .before .before .after2 .ensures))
 
 enum-known-c-4 : tie.Need-enum-known-c-4 Inv-loop μ-loop
 enum-known-c-4 c = search needs
 
-after-requires-6 : tie.Need-after-requires-6 Inv-loop μ-loop
-after-requires-6 c κs = search needs
+after-requires-3 : tie.Need-after-requires-3 Inv-loop μ-loop
+after-requires-3 c κs = search needs
 
-loop-less-8 : tie.Need-loop-less-8 Inv-loop μ-loop
-loop-less-8 c =
-    let f = c .before .before .before .before .before .before .before .before .before .before .before .before .before .before .before .before .before .before .before .before .before .before .before .before .loop .inv in
-    let ready : Ready (at (c .before .before .before .before .before .before .before .before .before .before .before .before .before .before .before .before .before .before .before .before .before .before .before .before .loop .p) (c .before .before .before .before .before .before .before .before .before .before .before .before .before .before .before .before .before .before .before .before .before .before .before .before .loop .kept) (c .before .before .before .before .before .before .before .before .before .before .before .before .before .before .before .before .before .before .before .before .before .before .before .before .loop .used) (c .before .before .before .before .before .before .before .before .before .before .before .before .before .before .before .before .before .before .before .before .before .before .before .before .loop .wrote)) (c .before .before .before .before .before .before .before .before .before .before .before .before .before .before .before .before .before .before .before .before .before .before .before .before .before .before .before .before .before .args .piece .now) (c .before .before .before .before .before .before .before .before .before .before .before .before .before .before .before .before .before .before .before .before .before .before .before .before .loop .out) = (c .before .before .before .before .before .before .before .before .before .before .before .before .before .before .before .before .before .before .before .before .before .before .before .loop-test .taken, omega (arith, c .before .before .before .before .before .before .before .before .before .before .before .before .before .before .before .before .before .before .before .before .before .before .if1 .left, f .within .1, f .long)) in
-    let l = line-inside (at (c .before .before .before .before .before .before .before .before .before .before .before .before .before .before .before .before .before .before .before .before .before .before .before .before .loop .p) (c .before .before .before .before .before .before .before .before .before .before .before .before .before .before .before .before .before .before .before .before .before .before .before .before .loop .kept) (c .before .before .before .before .before .before .before .before .before .before .before .before .before .before .before .before .before .before .before .before .before .before .before .before .loop .used) (c .before .before .before .before .before .before .before .before .before .before .before .before .before .before .before .before .before .before .before .before .before .before .before .before .loop .wrote)) (c .before .before .before .before .before .before .before .before .before .before .before .before .before .before .before .before .before .before .before .before .before .before .before .before .before .before .before .before .before .args .piece .now) (c .before .before .before .before .before .before .before .before .before .before .before .before .before .before .before .before .before .before .before .before .before .before .before .before .loop .out) _ (c .before .before .before .before .before .before .before .before .before .before .before .before .before .before .before .before .before .before .before .before .before .line-end .ensures) ready in
-    omega (arith, l .0, l .1, c .before .before .before .before .before .before .before .before .before .before .before .before .before .before .before .before .before .before .before .before .if2 .left)
+loop-less-6 : tie.Need-loop-less-6 Inv-loop μ-loop
+loop-less-6 c = less (c .before .before .before .before .before .before .before .before .before .before .before .before .before .before .before .before .before .before .before)
 
-loop-again-8 : tie.Need-loop-again-8 Inv-loop μ-loop
-loop-again-8 c =
-    let f = c .before .before .before .before .before .before .before .before .before .before .before .before .before .before .before .before .before .before .before .before .before .before .before .before .loop .inv in
-    let ready : Ready (at (c .before .before .before .before .before .before .before .before .before .before .before .before .before .before .before .before .before .before .before .before .before .before .before .before .loop .p) (c .before .before .before .before .before .before .before .before .before .before .before .before .before .before .before .before .before .before .before .before .before .before .before .before .loop .kept) (c .before .before .before .before .before .before .before .before .before .before .before .before .before .before .before .before .before .before .before .before .before .before .before .before .loop .used) (c .before .before .before .before .before .before .before .before .before .before .before .before .before .before .before .before .before .before .before .before .before .before .before .before .loop .wrote)) (c .before .before .before .before .before .before .before .before .before .before .before .before .before .before .before .before .before .before .before .before .before .before .before .before .before .before .before .before .before .args .piece .now) (c .before .before .before .before .before .before .before .before .before .before .before .before .before .before .before .before .before .before .before .before .before .before .before .before .loop .out) = (c .before .before .before .before .before .before .before .before .before .before .before .before .before .before .before .before .before .before .before .before .before .before .before .loop-test .taken, omega (arith, c .before .before .before .before .before .before .before .before .before .before .before .before .before .before .before .before .before .before .before .before .before .before .if1 .left, f .within .1, f .long)) in
-    feed-line _ _ _ _ (at (c .before .before .before .before .before .before .before .before .before .before .before .before .before .before .before .before .before .before .before .before .before .before .before .before .loop .p) (c .before .before .before .before .before .before .before .before .before .before .before .before .before .before .before .before .before .before .before .before .before .before .before .before .loop .kept) (c .before .before .before .before .before .before .before .before .before .before .before .before .before .before .before .before .before .before .before .before .before .before .before .before .loop .used) (c .before .before .before .before .before .before .before .before .before .before .before .before .before .before .before .before .before .before .before .before .before .before .before .before .loop .wrote)) f _ (c .before .before .before .before .before .before .before .before .before .before .before .before .before .before .before .before .before .before .before .before .before .line-end .ensures) ready (c .before .before .before .before .before .before .before .before .before .before .before .before .before .before .before .before .before .before .before .before .if2 .left) _ _ (c .before .before .before .before .before .before .before .before .before .before .before .before .before .before .empty .ensures .0) _ _ (search needs) (c .before .before .before .before .before .before .before .before .before .before .before .before .before .before .before .before .before .before .before .heard .result) (c .before .before .before .before .before .before .before .before .before .before .before .before .before .before .before .before .before .before .before .heard .ensures) (c .before .before .before .before .before .before .before .before .before .before .before .before .before .before .before .before .before .reply .result .answer) (c .before .before .before .before .before .before .before .before .before .before .before .before .before .before .before .before .before .reply .ensures .0) (c .before .before .before .before .before .before .before .before .before .before .before .before .before .before .before .before .before .reply .ensures .1)
-    (done-by (c .before .before .before .before .before .before .before .before .before .before .before .before .before .before .before .before .before .before .before .heard .result) _ (c .before .before .before .before .before .before .before .before .before .before .before .said .given .1) (c .before .before .before .before .before .before .before .before .before .before .before .before .before .before .before .before .before .before .before .before .before .before .before .before .loop .p) (c .before .before .before .before .before .before .before .before .before .before .before .before .before .before .before .before .before .reply .result .answer) _ (back1 Take _ (c .before .before .before .before .c4 .given .1) (search needs)) _ (c .before .before .before .before .before .before .before .is-refused .ensures) (c .before .before .before .before .before .before .if4 .left) _ (c .before .before .after6 .ensures))
+loop-again-6 : tie.Need-loop-again-6 Inv-loop μ-loop
+loop-again-6 c = again (c .before .before .before .before .before .before .before .before) _ (done-by (c .before .before .before .before .before .before .before .before .before .before .before .before .before .match2 .c) (c .before .before .before .before .before .before .before .before .before .before .before .before .before .before .before .before .before .before .before .before .before .before .before .loop .p) (c .before .before .before .before .before .before .before .before .before .before .before .before .before .match2 .a) _ (back5 Change _ _ _ _ _ (c .before .before .c4 .given .1) (search needs) (search needs) (search needs) (search needs) (search needs)) _ (c .before .before .before .before .before .is-refused .ensures) (c .before .before .before .before .if4 .left) _ (c .after3 .ensures))
 
 enum-known-c-5 : tie.Need-enum-known-c-5 Inv-loop μ-loop
 enum-known-c-5 c = search needs
 
-after-requires-7 : tie.Need-after-requires-7 Inv-loop μ-loop
-after-requires-7 c κs = search needs
+after-requires-4 : tie.Need-after-requires-4 Inv-loop μ-loop
+after-requires-4 c κs = search needs
 
-loop-less-9 : tie.Need-loop-less-9 Inv-loop μ-loop
-loop-less-9 c =
-    let f = c .before .before .before .before .before .before .before .before .before .before .before .before .before .before .before .before .before .before .before .before .before .before .before .before .before .loop .inv in
-    let ready : Ready (at (c .before .before .before .before .before .before .before .before .before .before .before .before .before .before .before .before .before .before .before .before .before .before .before .before .before .loop .p) (c .before .before .before .before .before .before .before .before .before .before .before .before .before .before .before .before .before .before .before .before .before .before .before .before .before .loop .kept) (c .before .before .before .before .before .before .before .before .before .before .before .before .before .before .before .before .before .before .before .before .before .before .before .before .before .loop .used) (c .before .before .before .before .before .before .before .before .before .before .before .before .before .before .before .before .before .before .before .before .before .before .before .before .before .loop .wrote)) (c .before .before .before .before .before .before .before .before .before .before .before .before .before .before .before .before .before .before .before .before .before .before .before .before .before .before .before .before .before .before .args .piece .now) (c .before .before .before .before .before .before .before .before .before .before .before .before .before .before .before .before .before .before .before .before .before .before .before .before .before .loop .out) = (c .before .before .before .before .before .before .before .before .before .before .before .before .before .before .before .before .before .before .before .before .before .before .before .before .loop-test .taken, omega (arith, c .before .before .before .before .before .before .before .before .before .before .before .before .before .before .before .before .before .before .before .before .before .before .before .if1 .left, f .within .1, f .long)) in
-    let l = line-inside (at (c .before .before .before .before .before .before .before .before .before .before .before .before .before .before .before .before .before .before .before .before .before .before .before .before .before .loop .p) (c .before .before .before .before .before .before .before .before .before .before .before .before .before .before .before .before .before .before .before .before .before .before .before .before .before .loop .kept) (c .before .before .before .before .before .before .before .before .before .before .before .before .before .before .before .before .before .before .before .before .before .before .before .before .before .loop .used) (c .before .before .before .before .before .before .before .before .before .before .before .before .before .before .before .before .before .before .before .before .before .before .before .before .before .loop .wrote)) (c .before .before .before .before .before .before .before .before .before .before .before .before .before .before .before .before .before .before .before .before .before .before .before .before .before .before .before .before .before .before .args .piece .now) (c .before .before .before .before .before .before .before .before .before .before .before .before .before .before .before .before .before .before .before .before .before .before .before .before .before .loop .out) _ (c .before .before .before .before .before .before .before .before .before .before .before .before .before .before .before .before .before .before .before .before .before .before .line-end .ensures) ready in
-    omega (arith, l .0, l .1, c .before .before .before .before .before .before .before .before .before .before .before .before .before .before .before .before .before .before .before .before .before .if2 .left)
+loop-less-7 : tie.Need-loop-less-7 Inv-loop μ-loop
+loop-less-7 c = less (c .before .before .before .before .before .before .before .before .before .before .before .before .before .before .before .before .before .before .before .before .before .before)
 
-loop-again-9 : tie.Need-loop-again-9 Inv-loop μ-loop
-loop-again-9 c =
-    let f = c .before .before .before .before .before .before .before .before .before .before .before .before .before .before .before .before .before .before .before .before .before .before .before .before .before .loop .inv in
-    let ready : Ready (at (c .before .before .before .before .before .before .before .before .before .before .before .before .before .before .before .before .before .before .before .before .before .before .before .before .before .loop .p) (c .before .before .before .before .before .before .before .before .before .before .before .before .before .before .before .before .before .before .before .before .before .before .before .before .before .loop .kept) (c .before .before .before .before .before .before .before .before .before .before .before .before .before .before .before .before .before .before .before .before .before .before .before .before .before .loop .used) (c .before .before .before .before .before .before .before .before .before .before .before .before .before .before .before .before .before .before .before .before .before .before .before .before .before .loop .wrote)) (c .before .before .before .before .before .before .before .before .before .before .before .before .before .before .before .before .before .before .before .before .before .before .before .before .before .before .before .before .before .before .args .piece .now) (c .before .before .before .before .before .before .before .before .before .before .before .before .before .before .before .before .before .before .before .before .before .before .before .before .before .loop .out) = (c .before .before .before .before .before .before .before .before .before .before .before .before .before .before .before .before .before .before .before .before .before .before .before .before .loop-test .taken, omega (arith, c .before .before .before .before .before .before .before .before .before .before .before .before .before .before .before .before .before .before .before .before .before .before .before .if1 .left, f .within .1, f .long)) in
-    feed-line _ _ _ _ (at (c .before .before .before .before .before .before .before .before .before .before .before .before .before .before .before .before .before .before .before .before .before .before .before .before .before .loop .p) (c .before .before .before .before .before .before .before .before .before .before .before .before .before .before .before .before .before .before .before .before .before .before .before .before .before .loop .kept) (c .before .before .before .before .before .before .before .before .before .before .before .before .before .before .before .before .before .before .before .before .before .before .before .before .before .loop .used) (c .before .before .before .before .before .before .before .before .before .before .before .before .before .before .before .before .before .before .before .before .before .before .before .before .before .loop .wrote)) f _ (c .before .before .before .before .before .before .before .before .before .before .before .before .before .before .before .before .before .before .before .before .before .before .line-end .ensures) ready (c .before .before .before .before .before .before .before .before .before .before .before .before .before .before .before .before .before .before .before .before .before .if2 .left) _ _ (c .before .before .before .before .before .before .before .before .before .before .before .before .before .before .before .empty .ensures .0) _ _ (search needs) (c .before .before .before .before .before .before .before .before .before .before .before .before .before .before .before .before .before .before .before .before .heard .result) (c .before .before .before .before .before .before .before .before .before .before .before .before .before .before .before .before .before .before .before .before .heard .ensures) (c .before .before .before .before .before .before .before .before .before .before .before .before .before .before .before .before .before .before .reply .result .answer) (c .before .before .before .before .before .before .before .before .before .before .before .before .before .before .before .before .before .before .reply .ensures .0) (c .before .before .before .before .before .before .before .before .before .before .before .before .before .before .before .before .before .before .reply .ensures .1)
-    (done-by (c .before .before .before .before .before .before .before .before .before .before .before .before .before .before .before .before .before .before .before .before .heard .result) _ (c .before .before .before .before .before .before .before .before .before .before .before .before .said .given .1) (c .before .before .before .before .before .before .before .before .before .before .before .before .before .before .before .before .before .before .before .before .before .before .before .before .before .loop .p) (c .before .before .before .before .before .before .before .before .before .before .before .before .before .before .before .before .before .before .reply .result .answer) _ (back2 Apply _ _ (c .before .before .before .before .before .c5 .given .1) (search needs) (search needs)) _ (c .before .before .before .before .before .before .before .before .is-refused .ensures) (c .before .before .before .before .before .before .before .if4 .left) _ (c .before .before .before .after7 .ensures))
+loop-again-7 : tie.Need-loop-again-7 Inv-loop μ-loop
+loop-again-7 c = again (c .before .before .before .before .before .before .before .before .before .before .before) _ (done-by (c .before .before .before .before .before .before .before .before .before .before .before .before .before .before .before .before .match2 .c) (c .before .before .before .before .before .before .before .before .before .before .before .before .before .before .before .before .before .before .before .before .before .before .before .before .before .before .loop .p) (c .before .before .before .before .before .before .before .before .before .before .before .before .before .before .before .before .match2 .a) _ (back1 Commit _ (c .before .before .before .before .before .c5 .given .1) (search needs)) _ (c .before .before .before .before .before .before .before .before .is-refused .ensures) (c .before .before .before .before .before .before .before .if4 .left) _ (c .before .before .before .after4 .ensures))
 
 enum-known-c-6 : tie.Need-enum-known-c-6 Inv-loop μ-loop
 enum-known-c-6 c = search needs
 
+after-requires-5 : tie.Need-after-requires-5 Inv-loop μ-loop
+after-requires-5 c κs = search needs
+
+loop-less-8 : tie.Need-loop-less-8 Inv-loop μ-loop
+loop-less-8 c = less (c .before .before .before .before .before .before .before .before .before .before .before .before .before .before .before .before .before .before .before .before .before .before)
+
+loop-again-8 : tie.Need-loop-again-8 Inv-loop μ-loop
+loop-again-8 c = again (c .before .before .before .before .before .before .before .before .before .before .before) _ (done-by (c .before .before .before .before .before .before .before .before .before .before .before .before .before .before .before .before .match2 .c) (c .before .before .before .before .before .before .before .before .before .before .before .before .before .before .before .before .before .before .before .before .before .before .before .before .before .before .loop .p) (c .before .before .before .before .before .before .before .before .before .before .before .before .before .before .before .before .match2 .a) _ (back1 Advance _ (c .before .before .before .before .before .c6 .given .1) (search needs)) _ (c .before .before .before .before .before .before .before .before .is-refused .ensures) (c .before .before .before .before .before .before .before .if4 .left) _ (c .before .before .before .after5 .ensures))
+
+enum-known-c-7 : tie.Need-enum-known-c-7 Inv-loop μ-loop
+enum-known-c-7 c = search needs
+
+after-requires-6 : tie.Need-after-requires-6 Inv-loop μ-loop
+after-requires-6 c κs = search needs
+
+loop-less-9 : tie.Need-loop-less-9 Inv-loop μ-loop
+loop-less-9 c = less (c .before .before .before .before .before .before .before .before .before .before .before .before .before .before .before .before .before .before .before .before .before)
+
+loop-again-9 : tie.Need-loop-again-9 Inv-loop μ-loop
+loop-again-9 c = again (c .before .before .before .before .before .before .before .before .before .before) _ (done-by (c .before .before .before .before .before .before .before .before .before .before .before .before .before .before .before .match2 .c) (c .before .before .before .before .before .before .before .before .before .before .before .before .before .before .before .before .before .before .before .before .before .before .before .before .before .loop .p) (c .before .before .before .before .before .before .before .before .before .before .before .before .before .before .before .match2 .a) _ (back1 Take _ (c .before .before .before .before .c7 .given .1) (search needs)) _ (c .before .before .before .before .before .before .before .is-refused .ensures) (c .before .before .before .before .before .before .if4 .left) _ (c .before .before .after6 .ensures))
+
+enum-known-c-8 : tie.Need-enum-known-c-8 Inv-loop μ-loop
+enum-known-c-8 c = search needs
+
+after-requires-7 : tie.Need-after-requires-7 Inv-loop μ-loop
+after-requires-7 c κs = search needs
+
+loop-less-10 : tie.Need-loop-less-10 Inv-loop μ-loop
+loop-less-10 c = less (c .before .before .before .before .before .before .before .before .before .before .before .before .before .before .before .before .before .before .before .before .before .before)
+
+loop-again-10 : tie.Need-loop-again-10 Inv-loop μ-loop
+loop-again-10 c = again (c .before .before .before .before .before .before .before .before .before .before .before) _ (done-by (c .before .before .before .before .before .before .before .before .before .before .before .before .before .before .before .before .match2 .c) (c .before .before .before .before .before .before .before .before .before .before .before .before .before .before .before .before .before .before .before .before .before .before .before .before .before .before .loop .p) (c .before .before .before .before .before .before .before .before .before .before .before .before .before .before .before .before .match2 .a) _ (back2 Apply _ _ (c .before .before .before .before .before .c8 .given .1) (search needs) (search needs)) _ (c .before .before .before .before .before .before .before .before .is-refused .ensures) (c .before .before .before .before .before .before .before .if4 .left) _ (c .before .before .before .after7 .ensures))
+
+enum-known-c-9 : tie.Need-enum-known-c-9 Inv-loop μ-loop
+enum-known-c-9 c = search needs
+
 after-requires-8 : tie.Need-after-requires-8 Inv-loop μ-loop
 after-requires-8 c κs = search needs
 
-loop-less-10 : tie.Need-loop-less-10 Inv-loop μ-loop
-loop-less-10 c =
-    let f = c .before .before .before .before .before .before .before .before .before .before .before .before .before .before .before .before .before .before .before .before .before .before .before .before .before .loop .inv in
-    let ready : Ready (at (c .before .before .before .before .before .before .before .before .before .before .before .before .before .before .before .before .before .before .before .before .before .before .before .before .before .loop .p) (c .before .before .before .before .before .before .before .before .before .before .before .before .before .before .before .before .before .before .before .before .before .before .before .before .before .loop .kept) (c .before .before .before .before .before .before .before .before .before .before .before .before .before .before .before .before .before .before .before .before .before .before .before .before .before .loop .used) (c .before .before .before .before .before .before .before .before .before .before .before .before .before .before .before .before .before .before .before .before .before .before .before .before .before .loop .wrote)) (c .before .before .before .before .before .before .before .before .before .before .before .before .before .before .before .before .before .before .before .before .before .before .before .before .before .before .before .before .before .before .args .piece .now) (c .before .before .before .before .before .before .before .before .before .before .before .before .before .before .before .before .before .before .before .before .before .before .before .before .before .loop .out) = (c .before .before .before .before .before .before .before .before .before .before .before .before .before .before .before .before .before .before .before .before .before .before .before .before .loop-test .taken, omega (arith, c .before .before .before .before .before .before .before .before .before .before .before .before .before .before .before .before .before .before .before .before .before .before .before .if1 .left, f .within .1, f .long)) in
-    let l = line-inside (at (c .before .before .before .before .before .before .before .before .before .before .before .before .before .before .before .before .before .before .before .before .before .before .before .before .before .loop .p) (c .before .before .before .before .before .before .before .before .before .before .before .before .before .before .before .before .before .before .before .before .before .before .before .before .before .loop .kept) (c .before .before .before .before .before .before .before .before .before .before .before .before .before .before .before .before .before .before .before .before .before .before .before .before .before .loop .used) (c .before .before .before .before .before .before .before .before .before .before .before .before .before .before .before .before .before .before .before .before .before .before .before .before .before .loop .wrote)) (c .before .before .before .before .before .before .before .before .before .before .before .before .before .before .before .before .before .before .before .before .before .before .before .before .before .before .before .before .before .before .args .piece .now) (c .before .before .before .before .before .before .before .before .before .before .before .before .before .before .before .before .before .before .before .before .before .before .before .before .before .loop .out) _ (c .before .before .before .before .before .before .before .before .before .before .before .before .before .before .before .before .before .before .before .before .before .before .line-end .ensures) ready in
-    omega (arith, l .0, l .1, c .before .before .before .before .before .before .before .before .before .before .before .before .before .before .before .before .before .before .before .before .before .if2 .left)
+loop-less-11 : tie.Need-loop-less-11 Inv-loop μ-loop
+loop-less-11 c = less (c .before .before .before .before .before .before .before .before .before .before .before .before .before .before .before .before .before .before .before .before .before .before)
 
-loop-again-10 : tie.Need-loop-again-10 Inv-loop μ-loop
-loop-again-10 c =
-    let f = c .before .before .before .before .before .before .before .before .before .before .before .before .before .before .before .before .before .before .before .before .before .before .before .before .before .loop .inv in
-    let ready : Ready (at (c .before .before .before .before .before .before .before .before .before .before .before .before .before .before .before .before .before .before .before .before .before .before .before .before .before .loop .p) (c .before .before .before .before .before .before .before .before .before .before .before .before .before .before .before .before .before .before .before .before .before .before .before .before .before .loop .kept) (c .before .before .before .before .before .before .before .before .before .before .before .before .before .before .before .before .before .before .before .before .before .before .before .before .before .loop .used) (c .before .before .before .before .before .before .before .before .before .before .before .before .before .before .before .before .before .before .before .before .before .before .before .before .before .loop .wrote)) (c .before .before .before .before .before .before .before .before .before .before .before .before .before .before .before .before .before .before .before .before .before .before .before .before .before .before .before .before .before .before .args .piece .now) (c .before .before .before .before .before .before .before .before .before .before .before .before .before .before .before .before .before .before .before .before .before .before .before .before .before .loop .out) = (c .before .before .before .before .before .before .before .before .before .before .before .before .before .before .before .before .before .before .before .before .before .before .before .before .loop-test .taken, omega (arith, c .before .before .before .before .before .before .before .before .before .before .before .before .before .before .before .before .before .before .before .before .before .before .before .if1 .left, f .within .1, f .long)) in
-    feed-line _ _ _ _ (at (c .before .before .before .before .before .before .before .before .before .before .before .before .before .before .before .before .before .before .before .before .before .before .before .before .before .loop .p) (c .before .before .before .before .before .before .before .before .before .before .before .before .before .before .before .before .before .before .before .before .before .before .before .before .before .loop .kept) (c .before .before .before .before .before .before .before .before .before .before .before .before .before .before .before .before .before .before .before .before .before .before .before .before .before .loop .used) (c .before .before .before .before .before .before .before .before .before .before .before .before .before .before .before .before .before .before .before .before .before .before .before .before .before .loop .wrote)) f _ (c .before .before .before .before .before .before .before .before .before .before .before .before .before .before .before .before .before .before .before .before .before .before .line-end .ensures) ready (c .before .before .before .before .before .before .before .before .before .before .before .before .before .before .before .before .before .before .before .before .before .if2 .left) _ _ (c .before .before .before .before .before .before .before .before .before .before .before .before .before .before .before .empty .ensures .0) _ _ (search needs) (c .before .before .before .before .before .before .before .before .before .before .before .before .before .before .before .before .before .before .before .before .heard .result) (c .before .before .before .before .before .before .before .before .before .before .before .before .before .before .before .before .before .before .before .before .heard .ensures) (c .before .before .before .before .before .before .before .before .before .before .before .before .before .before .before .before .before .before .reply .result .answer) (c .before .before .before .before .before .before .before .before .before .before .before .before .before .before .before .before .before .before .reply .ensures .0) (c .before .before .before .before .before .before .before .before .before .before .before .before .before .before .before .before .before .before .reply .ensures .1)
-    (done-by (c .before .before .before .before .before .before .before .before .before .before .before .before .before .before .before .before .before .before .before .before .heard .result) _ (c .before .before .before .before .before .before .before .before .before .before .before .before .said .given .1) (c .before .before .before .before .before .before .before .before .before .before .before .before .before .before .before .before .before .before .before .before .before .before .before .before .before .loop .p) (c .before .before .before .before .before .before .before .before .before .before .before .before .before .before .before .before .before .before .reply .result .answer) _ (back1 Delete _ (c .before .before .before .before .before .c6 .given .1) (search needs)) _ (c .before .before .before .before .before .before .before .before .is-refused .ensures) (c .before .before .before .before .before .before .before .if4 .left) _ (c .before .before .before .after8 .ensures))
+loop-again-11 : tie.Need-loop-again-11 Inv-loop μ-loop
+loop-again-11 c = again (c .before .before .before .before .before .before .before .before .before .before .before) _ (done-by (c .before .before .before .before .before .before .before .before .before .before .before .before .before .before .before .before .match2 .c) (c .before .before .before .before .before .before .before .before .before .before .before .before .before .before .before .before .before .before .before .before .before .before .before .before .before .before .loop .p) (c .before .before .before .before .before .before .before .before .before .before .before .before .before .before .before .before .match2 .a) _ (back1 Delete _ (c .before .before .before .before .before .c9 .given .1) (search needs)) _ (c .before .before .before .before .before .before .before .before .is-refused .ensures) (c .before .before .before .before .before .before .before .if4 .left) _ (c .before .before .before .after8 .ensures))
+
+enum-known-c-10 : tie.Need-enum-known-c-10 Inv-loop μ-loop
+enum-known-c-10 c = search needs
 
 after-requires-9 : tie.Need-after-requires-9 Inv-loop μ-loop
 after-requires-9 c κs = search needs
 
-loop-less-11 : tie.Need-loop-less-11 Inv-loop μ-loop
-loop-less-11 c =
-    let f = c .before .before .before .before .before .before .before .before .before .before .before .before .before .before .before .before .before .before .before .before .loop .inv in
-    let ready : Ready (at (c .before .before .before .before .before .before .before .before .before .before .before .before .before .before .before .before .before .before .before .before .loop .p) (c .before .before .before .before .before .before .before .before .before .before .before .before .before .before .before .before .before .before .before .before .loop .kept) (c .before .before .before .before .before .before .before .before .before .before .before .before .before .before .before .before .before .before .before .before .loop .used) (c .before .before .before .before .before .before .before .before .before .before .before .before .before .before .before .before .before .before .before .before .loop .wrote)) (c .before .before .before .before .before .before .before .before .before .before .before .before .before .before .before .before .before .before .before .before .before .before .before .before .before .args .piece .now) (c .before .before .before .before .before .before .before .before .before .before .before .before .before .before .before .before .before .before .before .before .loop .out) = (c .before .before .before .before .before .before .before .before .before .before .before .before .before .before .before .before .before .before .before .loop-test .taken, omega (arith, c .before .before .before .before .before .before .before .before .before .before .before .before .before .before .before .before .before .before .if1 .left, f .within .1, f .long)) in
-    let l = line-inside (at (c .before .before .before .before .before .before .before .before .before .before .before .before .before .before .before .before .before .before .before .before .loop .p) (c .before .before .before .before .before .before .before .before .before .before .before .before .before .before .before .before .before .before .before .before .loop .kept) (c .before .before .before .before .before .before .before .before .before .before .before .before .before .before .before .before .before .before .before .before .loop .used) (c .before .before .before .before .before .before .before .before .before .before .before .before .before .before .before .before .before .before .before .before .loop .wrote)) (c .before .before .before .before .before .before .before .before .before .before .before .before .before .before .before .before .before .before .before .before .before .before .before .before .before .args .piece .now) (c .before .before .before .before .before .before .before .before .before .before .before .before .before .before .before .before .before .before .before .before .loop .out) _ (c .before .before .before .before .before .before .before .before .before .before .before .before .before .before .before .before .before .line-end .ensures) ready in
-    omega (arith, l .0, l .1, c .before .before .before .before .before .before .before .before .before .before .before .before .before .before .before .before .if2 .left)
+loop-less-12 : tie.Need-loop-less-12 Inv-loop μ-loop
+loop-less-12 c = less (c .before .before .before .before .before .before .before .before .before .before .before .before .before .before .before .before .before .before .before .before .before)
 
-loop-again-11 : tie.Need-loop-again-11 Inv-loop μ-loop
-loop-again-11 c =
-    let f = c .before .before .before .before .before .before .before .before .before .before .before .before .before .before .before .before .before .before .before .before .loop .inv in
-    let ready : Ready (at (c .before .before .before .before .before .before .before .before .before .before .before .before .before .before .before .before .before .before .before .before .loop .p) (c .before .before .before .before .before .before .before .before .before .before .before .before .before .before .before .before .before .before .before .before .loop .kept) (c .before .before .before .before .before .before .before .before .before .before .before .before .before .before .before .before .before .before .before .before .loop .used) (c .before .before .before .before .before .before .before .before .before .before .before .before .before .before .before .before .before .before .before .before .loop .wrote)) (c .before .before .before .before .before .before .before .before .before .before .before .before .before .before .before .before .before .before .before .before .before .before .before .before .before .args .piece .now) (c .before .before .before .before .before .before .before .before .before .before .before .before .before .before .before .before .before .before .before .before .loop .out) = (c .before .before .before .before .before .before .before .before .before .before .before .before .before .before .before .before .before .before .before .loop-test .taken, omega (arith, c .before .before .before .before .before .before .before .before .before .before .before .before .before .before .before .before .before .before .if1 .left, f .within .1, f .long)) in
-    feed-line _ _ _ _ (at (c .before .before .before .before .before .before .before .before .before .before .before .before .before .before .before .before .before .before .before .before .loop .p) (c .before .before .before .before .before .before .before .before .before .before .before .before .before .before .before .before .before .before .before .before .loop .kept) (c .before .before .before .before .before .before .before .before .before .before .before .before .before .before .before .before .before .before .before .before .loop .used) (c .before .before .before .before .before .before .before .before .before .before .before .before .before .before .before .before .before .before .before .before .loop .wrote)) f _ (c .before .before .before .before .before .before .before .before .before .before .before .before .before .before .before .before .before .line-end .ensures) ready (c .before .before .before .before .before .before .before .before .before .before .before .before .before .before .before .before .if2 .left) _ _ (c .before .before .before .before .before .before .before .before .before .before .empty .ensures .0) _ _ (search (c .before .before .before .before .before .before .before .before .before .before .before .before .out .given, c .before .before .before .before .before .before .before .before .before .before .before .slice-known2 .given, c .before .before .before .before .before .before .before .before .before .before .before .before .before .reply, needs)) (c .before .before .before .before .before .before .before .before .before .before .before .before .before .before .before .heard .result) (c .before .before .before .before .before .before .before .before .before .before .before .before .before .before .before .heard .ensures) (c .before .before .before .before .before .before .before .before .before .before .before .before .before .reply .result .answer) (c .before .before .before .before .before .before .before .before .before .before .before .before .before .reply .ensures .0) (c .before .before .before .before .before .before .before .before .before .before .before .before .before .reply .ensures .1)
-    (done-whole (c .before .before .before .before .before .before .before .before .before .before .before .before .before .before .before .heard .result) _ (c .before .before .before .before .before .before .before .said .given .1) (c .before .before .before .before .before .before .before .before .before .before .before .before .before .before .before .before .before .before .before .before .loop .p) (c .before .before .before .before .before .before .before .before .before .before .before .before .before .reply .result .answer) _ (c .after9 .ensures))
+loop-again-12 : tie.Need-loop-again-12 Inv-loop μ-loop
+loop-again-12 c = again (c .before .before .before .before .before .before .before .before .before .before) _ (done-by (c .before .before .before .before .before .before .before .before .before .before .before .before .before .before .before .match2 .c) (c .before .before .before .before .before .before .before .before .before .before .before .before .before .before .before .before .before .before .before .before .before .before .before .before .before .loop .p) (c .before .before .before .before .before .before .before .before .before .before .before .before .before .before .before .match2 .a) _ (back1 Cut _ (c .before .before .before .before .c10 .given .1) (search needs)) _ (c .before .before .before .before .before .before .before .is-refused .ensures) (c .before .before .before .before .before .before .if4 .left) _ (c .before .before .after9 .ensures))
+
+enum-told-2 : tie.Need-enum-told-2 Inv-loop μ-loop
+enum-told-2 c = search needs
+
+loop-less-13 : tie.Need-loop-less-13 Inv-loop μ-loop
+loop-less-13 c = less (c .before .before .before .before .before .before .before .before .before .before .before .before .before .before .before .before .before)
+
+loop-again-13 : tie.Need-loop-again-13 Inv-loop μ-loop
+loop-again-13 c = again (c .before .before .before .before .before .before) _ (done-by (c .before .before .before .before .before .before .before .before .before .before .before .match2 .c) (c .before .before .before .before .before .before .before .before .before .before .before .before .before .before .before .before .before .before .before .before .before .loop .p) (c .before .before .before .before .before .before .before .before .before .before .before .match2 .a) _ (c .enum-told2 .given .1) _ (c .before .before .before .is-refused .ensures) (c .before .before .if4 .left) _ (performs _ _, λ f. f))
+
+after-requires-10 : tie.Need-after-requires-10 Inv-loop μ-loop
+after-requires-10 c κs = search needs
+
+loop-less-14 : tie.Need-loop-less-14 Inv-loop μ-loop
+loop-less-14 c = less (c .before .before .before .before .before .before .before .before .before .before .before .before .before .before .before .before .before)
+
+loop-again-14 : tie.Need-loop-again-14 Inv-loop μ-loop
+loop-again-14 c = again (c .before .before .before .before .before .before) _ (done-whole (c .before .before .before .before .before .before .before .before .before .before .before .match2 .c) (c .before .before .before .before .before .before .before .before .before .before .before .before .before .before .before .before .before .before .before .before .before .loop .p) (c .before .before .before .before .before .before .before .before .before .before .before .match2 .a) _ (c .after10 .ensures))
 
 same-length-3 : tie.Need-same-length-3 Inv-loop μ-loop
 same-length-3 c = search (c .before .loop .inv .long, needs)
 
 returns-3 : tie.Need-returns-3 Inv-loop μ-loop
-returns-3 c = let f = c .before .loop .inv in feed-end (c .before .before .before .before .before .before .args .s) _ _ _ _ f (λ r. omega (arith, f .within .0, c .loop-test .left))
+returns-3 c =
+    let f = c .before .loop .inv in
+    feed-end (c .before .before .before .before .before .before .args .s) _ _ _ _ f (λ r. omega (arith, f .within .0, c .loop-test .left)) (λ r e. omega (arith, e, c .loop-test .left))
 
 pub feed-spec : {M : Type 1} → statement M
 feed-spec =
@@ -314,54 +356,77 @@ feed-spec =
     same-length-2
     returns-2
     heard-requires
-    sub-reply
-    part-reply-start
-    part-reply-end
-    reply-requires
     empty-requires
     add-used
-    add-wrote
     enum-known-said
-    enum-told
+    enum-known-said-2
+    sub-refuse
+    part-refuse-start
+    part-refuse-end
+    refuse-requires
+    add-wrote
     loop-less
     loop-again
+    enum-known-c
+    slice-aggregate-answer
+    answer-requires
+    enum-known-c-2
+    answer-requires-2
+    plain-requires
+    slice-aggregate-tell
+    sub-tell
+    part-tell-start
+    part-tell-end
+    tell-requires
+    add-wrote-2
     ends-session-requires
-    after-requires
+    ended-requires
     loop-less-2
     loop-again-2
     is-refused-requires
     loop-less-3
     loop-again-3
-    enum-told-2
-    after-requires-2
+    enum-told
+    after-requires
     loop-less-4
     loop-again-4
-    enum-known-c
-    after-requires-3
+    enum-known-c-3
+    after-requires-2
     loop-less-5
     loop-again-5
-    enum-known-c-2
-    after-requires-4
+    enum-known-c-4
+    after-requires-3
     loop-less-6
     loop-again-6
-    enum-known-c-3
-    after-requires-5
+    enum-known-c-5
+    after-requires-4
     loop-less-7
     loop-again-7
-    enum-known-c-4
-    after-requires-6
+    enum-known-c-6
+    after-requires-5
     loop-less-8
     loop-again-8
-    enum-known-c-5
-    after-requires-7
+    enum-known-c-7
+    after-requires-6
     loop-less-9
     loop-again-9
-    enum-known-c-6
-    after-requires-8
+    enum-known-c-8
+    after-requires-7
     loop-less-10
     loop-again-10
-    after-requires-9
+    enum-known-c-9
+    after-requires-8
     loop-less-11
     loop-again-11
+    enum-known-c-10
+    after-requires-9
+    loop-less-12
+    loop-again-12
+    enum-told-2
+    loop-less-13
+    loop-again-13
+    after-requires-10
+    loop-less-14
+    loop-again-14
     same-length-3
     returns-3)

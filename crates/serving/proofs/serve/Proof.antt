@@ -1,5 +1,6 @@
 -- `serve` meets its contract.
 use mathlib.Core.Path.{refl}
+use Rattle.answers.specs.declared.Answer.the-variants.{Refused}
 use Rattle.serving.proofs.Laws.{too-few, serves}
 use borrow.Author.Needs.{needs}
 use Rattle.serving.proofs.serve.Statement.{statement}
@@ -11,32 +12,45 @@ returns c = too-few _ _ _ 0 refl (c .if1 .taken)
 parse-requires : tie.Need-parse-requires
 parse-requires c κs = search needs
 
-reply-requires : tie.Need-reply-requires
-reply-requires c κs = search needs
-
 enum-known-said : tie.Need-enum-known-said
 enum-known-said c = search needs
+
+slice-aggregate-answer : tie.Need-slice-aggregate-answer
+slice-aggregate-answer c = search needs
+
+answer-requires : tie.Need-answer-requires
+answer-requires c κs = search needs
+
+slice-aggregate-tell : tie.Need-slice-aggregate-tell
+slice-aggregate-tell c = search needs
+
+tell-requires : tie.Need-tell-requires
+tell-requires c κs = search needs
 
 after-requires : tie.Need-after-requires
 after-requires c κs = search needs
 
-enum-told : tie.Need-enum-told
-enum-told c = search needs
+enum-known-said-2 : tie.Need-enum-known-said-2
+enum-known-said-2 c = search needs
+
+refuse-requires : tie.Need-refuse-requires
+refuse-requires c κs = search needs
 
 same-length : tie.Need-same-length
 same-length c = search needs
 
 returns-2 : tie.Need-returns-2
 returns-2 c =
-    serves _ _ _ (c .before .before .before .before .before .before .reply .result .len) (c .before .before .before .before .before .before .before .before .before .before .before .before .args .p) _ _ _ (c .before .before .said .given .1) (c .before .before .before .before .before .before .before .before .parse .ensures) (c .before .before .before .before .before .before .before .before .before .if1 .left) (c .before .before .before .before .before .before .reply .ensures .1) (c .before .before .before .before .before .before .reply .result .answer) (c .before .before .before .before .before .before .reply .ensures .0)
-    (c .after .ensures .0, c .after .ensures .1 .1)
+    serves _ _ _ (c .before .before .before .tell .result) (c .before .before .before .before .before .before .before .before .before .before .before .before .before .before .before .before .args .p) _ _ _ (c .before .before .before .before .before .before .before .before .before .before .said .given .1) (c .before .before .before .before .before .before .before .before .before .before .before .before .parse .ensures) (c .before .before .before .before .before .before .before .before .before .before .before .before .before .if1 .left) (c .before .before .before .tell .ensures .1) (c .before .before .before .before .before .before .before .answer .result)
+    (c .before .before .before .tell .ensures .0 (c .before .before .before .before .before .before .before .before .before .before .before .before .before .before .before .before .args .p) refl (c .before .before .before .before .before .before .before .answer .ensures .0) (c .before .before .before .before .before .before .before .answer .ensures .1) (search needs)) (c .after .ensures .0, c .after .ensures .1 .1)
 
 same-length-2 : tie.Need-same-length-2
 same-length-2 c = search needs
 
 returns-3 : tie.Need-returns-3
 returns-3 c =
-    serves _ _ _ (c .before .before .before .before .reply .result .len) (c .before .before .before .before .before .before .before .before .before .before .args .p) _ _ _ (c .enum-told .given .1) (c .before .before .before .before .before .before .parse .ensures) (c .before .before .before .before .before .before .before .if1 .left) (c .before .before .before .before .reply .ensures .1) (c .before .before .before .before .reply .result .answer) (c .before .before .before .before .reply .ensures .0) refl
+    serves _ _ _ (c .before .before .refuse .result) (c .before .before .before .before .before .before .before .before .before .before .before .args .p) _ _ _ (c .before .before .before .before .before .said2 .given .1) (c .before .before .before .before .before .before .before .parse .ensures) (c .before .before .before .before .before .before .before .before .if1 .left) (c .before .before .refuse .ensures .1) (Refused _)
+    (c .before .before .refuse .ensures .0 (c .before .before .before .before .before .before .before .before .before .before .before .args .p)) refl
 
 pub serve-spec : {M : Type 1} → statement M
 serve-spec =
@@ -44,10 +58,14 @@ serve-spec =
     (tie.spec
     returns
     parse-requires
-    reply-requires
     enum-known-said
+    slice-aggregate-answer
+    answer-requires
+    slice-aggregate-tell
+    tell-requires
     after-requires
-    enum-told
+    enum-known-said-2
+    refuse-requires
     same-length
     returns-2
     same-length-2

@@ -1,0 +1,2 @@
+-- Which calls see fields.
+pub mod Plain

@@ -1,0 +1,21 @@
+-- `refuse` meets its contract.
+use native.Mathlib.Omega.{arith}
+use Rattle.serving.proofs.Laws.{refuses, within}
+use borrow.Author.Needs.{needs}
+use Rattle.serving.proofs.refuse.Statement.{statement}
+use Rattle.serving.proofs.refuse.Tie as tie
+
+slice-aggregate-answer : tie.Need-slice-aggregate-answer
+slice-aggregate-answer c = search needs
+
+answer-requires : tie.Need-answer-requires
+answer-requires c κs = search needs
+
+same-length : tie.Need-same-length
+same-length c = search needs
+
+returns : tie.Need-returns
+returns c = (refuses _ _ _ _ _ (omega arith) (c .before .before .answer .ensures .0) (c .before .before .answer .ensures .1), within _ _ _ (c .before .before .answer .ensures .1))
+
+pub refuse-spec : {M : Type 1} → statement M
+refuse-spec = tie.close (tie.spec slice-aggregate-answer answer-requires same-length returns)
