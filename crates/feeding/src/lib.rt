@@ -8,7 +8,7 @@ ghost use lib.ListN.{length};
 ghost use Rattle.rules.specs.Tables.{setup};
 ghost use Rattle.format.specs.Lines.{said};
 ghost use Rattle.printing.specs.Line.{longest};
-ghost use Rattle.plant.specs.View.{viewPlant, keptPlant};
+ghost use Rattle.plant.specs.View.{viewPlant};
 ghost use Rattle.pending.specs.View.{viewPending, between};
 ghost use Rattle.lines.specs.View.{viewSaid};
 ghost use Rattle.feeding.specs.Fed.{keptServer, Within, Fed, Finished};
@@ -56,8 +56,8 @@ fn heard(kept: Pending, piece: &[u8], from: usize, to: usize) -> Said
     lines::parse(&bytes[..len])
 }
 
-// Takes the piece as far as there is room for its answers. The calls of a working day write their tables in place, because a plant that
-// goes through a function is copied; the others do not come often.
+// Takes the piece as far as there is room for its answers. The plant lies here: calls are asked where it lies and their tables are written
+// in place, because a plant that goes through a function is copied. Load, map, abandon, sweep and store do not come often.
 pub fn feed(s: Server, piece: &[u8], out: &mut [u8]) -> Server
     ensures feeds { λ r. ⌜ (keptServer s ≡ true → Fed s (now (piece .entry)) (now (out .exit)) r) ⌝ }
     ensures within { λ r. ⌜ Within r (now (piece .entry)) (now (out .entry)) ⌝ }
