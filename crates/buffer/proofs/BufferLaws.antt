@@ -8,14 +8,14 @@ use lib.ListN.{length, getD, replicate, length-map}
 use lib.Seq.{take-all}
 use lib.Dec.{eqb, leb}
 use borrow.Author.Tests.{leb-true, leb-false, eq-eqb, ne-eqb}
-use Rattle.rules.specs.Lists.{has, any, from, keep}
+use Rattle.rules.specs.Lists.{has, any, from}
 use Rattle.rules.specs.Values as S
 use Rattle.rules.specs.Changes as C
 use Rattle.rules.specs.Tables as M
 use Rattle.rules.proofs.Laws.{byCase, run-append}
 use Rattle.lists.specs.Find.{fold}
 use Rattle.lists.specs.Table.{counted}
-use Rattle.lists.proofs.Views.{counted-next, counted-length, Seeking, seek-start, seek-hit, seek-next, Keeping, keep-start, Working, work-start}
+use Rattle.lists.proofs.Views.{counted-next, counted-length, Seeking, seek-start, seek-hit, seek-next, Working, work-start}
 use Rattle.lists.proofs.Forms.{form-empty, used-at}
 use Rattle.batch.specs.View.{viewBatch, carry}
 use Rattle.batch.specs.Form.{batchForm, isUnused}
@@ -98,9 +98,6 @@ module _ (t : Buffer) {n : ℕ} (l : length (t .batches) ≡ 32) (e : n ≡ min 
 
   pub sets-used : (q : S.Place) → Seeking viewBatch (λ b. C.setsIt (b .changes) q) (λ b. true) false n 32 (t .batches) (C.setsIt (M.changesIn (viewBuffer t)) q) 0
   sets-used q = rw (sets-any (viewBuffer t) q) seek-used
-
-  pub keep-used : {p : M.Batch → Bool} {acc : List M.Batch} → acc ≡ [] → Keeping viewBatch p n 32 (t .batches) (keep p (viewBuffer t)) acc 0
-  keep-used a = rw used-view (keep-start l a)
 
   pub carry-used : (rows : List ℕ) (q : S.Place) (f : S.Field) → Working viewBatch (carry rows q) n 32 (t .batches) (C.run (M.changesIn (M.pending rows (viewBuffer t))) q f) f 0
   carry-used rows q f = rw used-view (work-start l (run-pending rows (counted viewBatch n (t .batches)) q f))

@@ -1,9 +1,8 @@
 // The buffer: committed sessions that wait for a worker, oldest first.
 ghost use Prim.Native.Nat.{min};
 ghost use mathlib.Core.Path.{_≡_};
-ghost use mathlib.Core.Bool.{true, cond, not};
+ghost use mathlib.Core.Bool.{true};
 ghost use mathlib.Core.List.{[]};
-ghost use lib.Dec.{eqb};
 ghost use lib.ListN.{length};
 ghost use Rattle.rules.specs.Limits.{bufferLimit};
 ghost use Rattle.rules.specs.Lists.{isEmpty, pushed};
@@ -122,28 +121,23 @@ impl Buffer {
         t
     }
 
-    fn push_unless(self, b: Batch, n: u32) -> Self
-        ensures shows { λ r. ⌜ viewBuffer r ≡ cond (not (eqb n (viewBatch b .number))) (pushed bufferLimit (viewBuffer self) (viewBatch b)) (viewBuffer self) ⌝ }
-        ensures form { λ r. ⌜ (batchForm b ≡ true → bufferForm self ≡ true → bufferForm r ≡ true) ⌝ }
-    {
-        if n == b.number {
-            return self;
-        }
-        self.push(b)
-    }
-
-    // Without a session, wherever it stands.
+    // Without a session, wherever it stands. The others go to the front of a new buffer one by one: `push` takes and gives a whole buffer, which is copied each time.
     pub fn without(self, n: u32) -> Self
         ensures shows { λ r. ⌜ viewBuffer r ≡ unbuffer n (viewBuffer self) ⌝ }
         ensures form { λ r. ⌜ (bufferForm self ≡ true → bufferForm r ≡ true) ⌝ }
     {
         let count = used(self.count);
         let mut kept = Buffer::empty();
+        let mut k: usize = 0;
         let mut i: usize = 0;
         while i < count {
-            kept = kept.push_unless(self.batches[i], n);
+            if n != self.batches[i].number {
+                kept.batches[k] = self.batches[i];
+                k += 1;
+            }
             i += 1;
         }
+        kept.count = k as u8;
         kept
     }
 

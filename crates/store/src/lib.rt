@@ -79,7 +79,7 @@ impl Store {
         t
     }
 
-    // Changes made in their order.
+    // Changes made in their order, in place: `changed` takes and gives the whole store, which is copied each time.
     pub fn follow(self, cs: Changes) -> Self
         ensures shows { λ r. ⌜ viewStore r ≡ ranged (follow (viewStore self) (viewChanges cs)) ⌝ }
         ensures form { λ r. ⌜ (storeForm self ≡ true → storeForm r ≡ true) ⌝ }
@@ -92,7 +92,13 @@ impl Store {
                 return now;
             }
             let c = cs.items[i];
-            now = now.changed(c);
+            let q = c.place;
+            let at = index_of(q);
+            if at < Self::LIMIT {
+                let f = now.fields[at];
+                let g = c.after(q, f);
+                now.fields[at] = g;
+            }
             i += 1;
         }
         now

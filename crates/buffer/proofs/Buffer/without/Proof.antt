@@ -1,26 +1,25 @@
--- `Buffer::without` meets its contract.
+-- `Buffer::without` meets its contract. The first k of the new entries are those before i but for that of n, and keep the form.
 use borrow.Author.Needs.{needs}
+use borrow.Author.Tests.{eq-eqb, ne-eqb}
 use Prim.Native.Nat.{_-_}
-use mathlib.Core.Path.{_≡_}
-use mathlib.Core.Bool.{true, not}
+use mathlib.Core.Logic.{⊎-elim}
+use mathlib.Core.Path.{ap}
+use mathlib.Core.Bool.{not}
 use lib.Dec.{eqb}
-use Rattle.rules.specs.Tables as M
 use Rattle.lists.proofs.Loops.{length-mapped}
-use Rattle.lists.proofs.Views.{Keeping, keep-next, keep-end}
+use Rattle.lists.proofs.Sift.{Sifting, sift-start, sift-out, sift-in, sift-done}
 use Rattle.batch.specs.View.{viewBatch}
+use Rattle.batch.specs.Form.{batchForm, isUnused}
 use Rattle.buffer.specs.View.{viewBuffer}
 use Rattle.buffer.specs.Form.{bufferForm}
-use Rattle.buffer.proofs.BufferLaws.{within, keep-used, batch-form}
 use Rattle.buffer.proofs.Buffer.without.Statement.{statement}
 use Rattle.buffer.proofs.Buffer.without.Tie as tie
 
 abbrev Inv-loop : tie.InvT-loop
-Inv-loop n self count kept₀ i₀ kept i =
-    Keeping viewBatch (λ b. not (eqb n (b .number))) count 32 (self .batches) (M.unbuffer n (viewBuffer self)) (viewBuffer kept) i
-    × (bufferForm self ≡ true → bufferForm kept ≡ true)
+Inv-loop n self count kept₀ k₀ i₀ kept k i = Sifting viewBatch (λ b. not (eqb n (b .number))) 32 batchForm isUnused (self .count) (self .batches) k (kept .batches) i
 
 abbrev μ-loop : tie.MeasureT-loop
-μ-loop n self count kept₀ i₀ kept i = count - i
+μ-loop n self count kept₀ k₀ i₀ kept k i = count - i
 
 used-requires : tie.Need-used-requires Inv-loop μ-loop
 used-requires c κs = search needs
@@ -29,16 +28,29 @@ empty-requires : tie.Need-empty-requires Inv-loop μ-loop
 empty-requires c κs = search needs
 
 loop-holds : tie.Need-loop-holds Inv-loop μ-loop
-loop-holds c = (search (keep-used, length-mapped), λ f. c .empty .ensures .1)
+unfolding viewBuffer bufferForm
+loop-holds c = sift-start _ _ (search (length-mapped, needs)) (search (length-mapped, needs)) (c .empty .ensures .0) (c .empty .ensures .1)
 
-mul-push-unless : tie.Need-mul-push-unless Inv-loop μ-loop
-mul-push-unless c = search needs
+mul-if1 : tie.Need-mul-if1 Inv-loop μ-loop
+mul-if1 c = search needs
 
-element-copy-out-push-unless : tie.Need-element-copy-out-push-unless Inv-loop μ-loop
-element-copy-out-push-unless c = search needs
+element-copy-out-if1 : tie.Need-element-copy-out-if1 Inv-loop μ-loop
+element-copy-out-if1 c = search needs
 
-push-unless-requires : tie.Need-push-unless-requires Inv-loop μ-loop
-push-unless-requires c κs = search needs
+mul-kept : tie.Need-mul-kept Inv-loop μ-loop
+mul-kept c = search needs
+
+element-copy-out-kept : tie.Need-element-copy-out-kept Inv-loop μ-loop
+element-copy-out-kept c = search needs
+
+mul-t19 : tie.Need-mul-t19 Inv-loop μ-loop
+mul-t19 c = search needs
+
+element-set-from-kept : tie.Need-element-set-from-kept Inv-loop μ-loop
+element-set-from-kept c = search needs
+
+add-k : tie.Need-add-k Inv-loop μ-loop
+add-k c = search needs
 
 add-i : tie.Need-add-i Inv-loop μ-loop
 add-i c = search needs
@@ -47,10 +59,19 @@ loop-less : tie.Need-loop-less Inv-loop μ-loop
 loop-less c = search needs
 
 loop-again : tie.Need-loop-again Inv-loop μ-loop
-loop-again c = (search (keep-next, within), λ f. c .push-unless .ensures .1 (batch-form _ _ _ (search needs) f) (c .before .before .before .loop .inv .1 f))
+unfolding viewBatch
+loop-again c =
+    ⊎-elim
+    (λ w. rw (w .2, w .3) (sift-in (c .before .before .loop .inv) _ (search needs) (ap not (ne-eqb _ _ (w .0 .taken)))))
+    (λ w. rw (w .1, w .2) (sift-out (c .before .before .loop .inv) _ (search needs) (ap not (eq-eqb _ _ (w .0 .left)))))
+    (c .if1 .came)
+
+cast-kept : tie.Need-cast-kept Inv-loop μ-loop
+cast-kept c = search needs
 
 returns : tie.Need-returns Inv-loop μ-loop
-returns c = (search (keep-end, needs), c .before .loop .inv .1)
+unfolding viewBuffer bufferForm
+returns c = (sift-done (c .before .loop .inv) (search needs), c .before .loop .inv .form)
 
 pub without-spec : {M : Type 1} → statement M
 without-spec =
@@ -61,10 +82,15 @@ without-spec =
     used-requires
     empty-requires
     loop-holds
-    mul-push-unless
-    element-copy-out-push-unless
-    push-unless-requires
+    mul-if1
+    element-copy-out-if1
+    mul-kept
+    element-copy-out-kept
+    mul-t19
+    element-set-from-kept
+    add-k
     add-i
     loop-less
     loop-again
+    cast-kept
     returns)
