@@ -5,4 +5,5 @@ pub mod Indexed
 pub mod Forms
 pub mod Remake
 pub mod Ends
+pub mod Sift
 pub mod Walks

@@ -2,10 +2,10 @@
 use Prim.Native.Nat.{ℕ, _+_, _≤_, _<_, min}
 use native.Mathlib.Omega.{arith}
 use mathlib.Core.Path.{_≡_, refl, sym, _∙_, ap, fun-ext}
-use mathlib.Core.Bool.{Bool, true, false, not, cond, _||_}
+use mathlib.Core.Bool.{Bool, true, false, cond, _||_}
 use mathlib.Core.List.{List, [], _∷_, map, map-id}
 use lib.Dec.{eqb, ltb}
-use lib.ListN.{length, getD, set, length-set}
+use lib.ListN.{length, getD, set}
 use lib.Seq.{set-getD}
 use borrow.Author.Tests.{eq-eqb, ne-eqb, le-leb, lt-leb}
 use Rattle.rules.specs.Limits.{documentCount}
@@ -15,8 +15,8 @@ use Rattle.rules.specs.Effects.{opened, firstDoomed, room, loses, isLost}
 use Rattle.rules.proofs.Laws.{or-zero}
 use Rattle.lists.specs.Find.{fold}
 use Rattle.lists.specs.Table.{counted}
-use Rattle.lists.proofs.Views.{Remaking, remake-start, Keeping, keep-start, keep-next, push-room, push-full, counted-few, counted-full, counted-length}
-use Rattle.lists.proofs.Ends.{keep-done, remake-here, remake-done}
+use Rattle.lists.proofs.Views.{Remaking, remake-start, push-room, push-full, counted-few, counted-full, counted-length}
+use Rattle.lists.proofs.Ends.{remake-here, remake-done}
 use Rattle.lists.proofs.Forms.{form-empty, form-push, used-at}
 use Rattle.lists.proofs.Remake.{form-set}
 use Rattle.docset.specs.Sets.{docs}
@@ -73,46 +73,6 @@ module _ (t : Sessions) (s : Session) (l : length (t .slots) ≡ 8) where
 pub push-form : (t : Sessions) (s : Session) → t .count < 8 → sessionForm s ≡ true → sessionsForm t ≡ true → sessionsForm (record { count = t .count + 1; slots = set (t .slots) (t .count) s }) ≡ true
 unfolding sessionsForm
 push-form t s h e f = form-push 8 sessionForm isUnused (t .count) (t .slots) s h e f
-
--- ── the slots but for that of n, which are the first k of the new table u ──
-abbrev firsts : Sessions → ℕ → Sessions
-firsts u k = record { count = k; slots = u .slots }
-
-pub record Freeing (n : ℕ) (t u : Sessions) (k i : ℕ) : Type 0 where
-  pub long : length (u .slots) ≡ 8
-  pub few : k ≤ i
-  pub kept : Keeping viewSlot (λ s. not (eqb n (s .number))) (t .count) 8 (t .slots) (M.freed n (viewSessions t)) (viewSessions (firsts u k)) i
-  pub form : sessionsForm t ≡ true → sessionsForm (firsts u k) ≡ true
-
-pub free-start : {n : ℕ} {t : Sessions} (u : Sessions) → length (t .slots) ≡ 8 → length (u .slots) ≡ 8 → viewSessions u ≡ [] → sessionsForm u ≡ true → Freeing n t u 0 0
-unfolding viewSessions
-free-start u l m e f =
-    let q : min (u .count) 8 ≡ 0 = sym (counted-length viewSlot (u .count) (u .slots) 8 m) ∙ ap length e in
-    let z : 0 ≡ u .count = omega arith in
-    record { long = m; few = omega arith; kept = keep-start l (none-shown (u .slots)); form = λ h. ap (λ (k : ℕ). sessionsForm (firsts u k)) z ∙ f }
-
-module _ {n : ℕ} {t u : Sessions} {k i : ℕ} (inv : Freeing n t u k i) (d : Session) (r : Sessions) (m : ℕ) (h : i < min (t .count) 8) where
-  pub free-own : n ≡ getD (t .slots) i d .number → r ≡ u → m ≡ k → Freeing n t r m (i + 1)
-  unfolding viewSlot
-  free-own e p q =
-      rw (p, q)
-      (record { long = inv .long; few = omega (arith, inv .few); kept = keep-next (inv .kept) d (omega arith) (omega arith) (rw (eq-eqb n (getD (t .slots) i d .number) e)); form = inv .form })
-
-  pub free-other : (n ≡ getD (t .slots) i d .number → ⊥) → r ≡ record { count = u .count; slots = set (u .slots) k (getD (t .slots) i d) } → m ≡ k + 1 → Freeing n t r m (i + 1)
-  unfolding viewSlot
-  free-other e p q =
-      let s = getD (t .slots) i d in
-      let b : k < 8 = omega (arith, inv .few) in
-      rw (p, q)
-      (record {
-        long = length-set (u .slots) k s ∙ inv .long;
-        few = omega (arith, inv .few);
-        kept = keep-next (inv .kept) d (omega arith) (omega arith) (slot-room (firsts u k) s (inv .long) b ∙ rw (ne-eqb n (s .number) e));
-        form = λ g. push-form (firsts u k) s b (slot-form t i d (omega arith) g) (inv .form g);
-      })
-
-pub free-done : {n : ℕ} {t u : Sessions} {k i : ℕ} → Freeing n t u k i → min (t .count) 8 ≤ i → viewSessions (firsts u k) ≡ M.freed n (viewSessions t)
-free-done inv h = keep-done (inv .kept) h
 
 -- ── room ──
 module _ (t : Sessions) (l : length (t .slots) ≡ 8) where

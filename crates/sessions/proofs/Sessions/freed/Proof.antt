@@ -1,14 +1,23 @@
 -- `Sessions::freed` meets its contract. The first k of the new slots are those before i but for that of n, and keep the form.
 use borrow.Author.Needs.{needs}
 use Prim.Native.Nat.{_-_}
-use Rattle.lists.proofs.Loops.{length-mapped}
+use mathlib.Core.Path.{ap}
+use mathlib.Core.Bool.{not}
 use mathlib.Core.Logic.{⊎-elim}
-use Rattle.sessions.proofs.SessionsLaws.{Freeing, free-start, free-own, free-other, free-done}
+use lib.Dec.{eqb}
+use Rattle.lists.proofs.Loops.{length-mapped}
+use Rattle.lists.proofs.Sift.{Sifting, sift-start, sift-in, sift-out, sift-done}
+use Rattle.session.specs.View.{viewSlot}
+use Rattle.session.specs.Form.{sessionForm, isUnused}
+use Rattle.sessions.specs.declared.Sessions.{Sessions}
+use Rattle.sessions.specs.View.{viewSessions}
+use Rattle.sessions.specs.Form.{sessionsForm}
+use Rattle.sessions.proofs.SessionsLaws.{number-is, number-not}
 use Rattle.sessions.proofs.Sessions.freed.Statement.{statement}
 use Rattle.sessions.proofs.Sessions.freed.Tie as tie
 
 abbrev Inv-loop : tie.InvT-loop
-Inv-loop n self end kept₀ k₀ i₀ kept k i = Freeing n self kept k i
+Inv-loop n self end kept₀ k₀ i₀ kept k i = Sifting viewSlot (λ s. not (eqb n (s .number))) sessionForm isUnused (self .count) 8 (self .slots) (kept .slots) k i
 
 abbrev μ-loop : tie.MeasureT-loop
 μ-loop n self end kept₀ k₀ i₀ kept k i = end - i
@@ -20,7 +29,8 @@ empty-requires : tie.Need-empty-requires Inv-loop μ-loop
 empty-requires c κs = search needs
 
 loop-holds : tie.Need-loop-holds Inv-loop μ-loop
-loop-holds c = free-start (c .empty .result) (search (length-mapped, needs)) (search (length-mapped, needs)) (c .empty .ensures .0) (c .empty .ensures .1)
+unfolding viewSessions sessionsForm
+loop-holds c = sift-start (c .empty .result .count) (search (length-mapped, needs)) (search (length-mapped, needs)) (c .empty .ensures .0) (c .empty .ensures .1)
 
 mul-if1 : tie.Need-mul-if1 Inv-loop μ-loop
 mul-if1 c = search needs
@@ -52,15 +62,16 @@ loop-less c = search needs
 loop-again : tie.Need-loop-again Inv-loop μ-loop
 loop-again c =
     ⊎-elim
-    (λ w. free-other (c .before .before .loop .inv) _ _ _ (search needs) (w .0 .taken) (w .2) (w .3))
-    (λ w. free-own (c .before .before .loop .inv) _ _ _ (search needs) (w .0 .left) (w .1) (w .2))
+    (λ w. sift-in (c .before .before .loop .inv) _ (search needs) (ap not (number-not _ _ (w .0 .taken))) (ap (λ (t : Sessions). t .slots) (w .2)) (w .3))
+    (λ w. sift-out (c .before .before .loop .inv) _ (search needs) (ap not (number-is _ _ (w .0 .left))) (ap (λ (t : Sessions). t .slots) (w .1)) (w .2))
     (c .if1 .came)
 
 cast-kept : tie.Need-cast-kept Inv-loop μ-loop
 cast-kept c = search needs
 
 returns : tie.Need-returns Inv-loop μ-loop
-returns c = (free-done (c .before .loop .inv) (search needs), c .before .loop .inv .form)
+unfolding viewSessions sessionsForm
+returns c = (sift-done (c .before .loop .inv) (search needs), c .before .loop .inv .form)
 
 pub freed-spec : {M : Type 1} → statement M
 freed-spec =
