@@ -4,7 +4,6 @@ ghost use mathlib.Core.Bool.{not};
 ghost use Rattle.rules.specs.Lists.{any};
 ghost use Rattle.rules.specs.Tables.{othersExclusive};
 ghost use Rattle.rules.specs.Reading.{knownAway};
-ghost use Rattle.rules.specs.Effects as E;
 ghost use Rattle.keys.specs.View.{viewKey, viewKeys};
 ghost use Rattle.changes.specs.View.{viewChanges};
 ghost use Rattle.sessions.specs.View.{viewSessions};
@@ -16,22 +15,6 @@ use changes::Changes;
 use keys::Key;
 use keys::Keys;
 use sessions::Sessions;
-
-// A change of the session's own is to one of them.
-pub fn touched(own: Changes, key: Key) -> bool
-    ensures { λ r. ⌜ r ≡ E.touched (viewChanges own) (viewKey key) ⌝ }
-{
-    let n = key.len();
-    let mut i: u8 = 0;
-    while i < n {
-        let q = key.place(i);
-        if own.touches(q) {
-            return true;
-        }
-        i += 1;
-    }
-    false
-}
 
 // Another session than n holds a document of them exclusively.
 pub fn hindered(sessions: Sessions, n: u32, key: Key) -> bool

@@ -2,16 +2,15 @@
 use Prim.Native.Nat.{ℕ, zero, suc, _+_, _-_, _<_, _≤_, min}
 use native.Mathlib.Omega.{arith}
 use mathlib.Core.Path.{_≡_, refl, sym, _∙_, ap}
-use mathlib.Core.Bool.{Bool, true, false, not, cond}
+use mathlib.Core.Bool.{Bool, true, false, not}
 use mathlib.Core.List.{[], List, _∷_, _++_, map, append-assoc}
-use lib.ListN.{length, getD, set, take, drop, replicate, length-set, length-append, length-drop, take-append-drop}
+use lib.ListN.{length, getD, set, take, drop, replicate, length-append, length-drop, take-append-drop}
 use lib.Seq.{length-take-le, take-set-lt, drop-set-lt, getD-take, take-at, drop-at}
 use lib.Dec.{eqb}
 use Rattle.rules.specs.Lists.{any, all, keep, dropAt}
 use Rattle.rules.specs.Values as S
 use Rattle.rules.specs.Changes as C
 use Rattle.rules.specs.Reading as D
-use Rattle.rules.specs.Tables as M
 use Rattle.rules.specs.Effects.{inDocuments, stays}
 use Rattle.rules.proofs.Laws.{both}
 use Rattle.rules.proofs.Tests.{all-dropAt}
@@ -43,6 +42,11 @@ cache-empty c e h = form-empty 16 cachedForm isBlankCached c (blank-cached c e h
 pub entry-form : (t : Cache) (i : ℕ) (d : Cached) → i < t .count → cacheForm t ≡ true → cachedForm (getD (t .entries) i d) ≡ true
 unfolding cacheForm
 entry-form t i d h e = used-at 16 cachedForm isBlankCached (t .count) (t .entries) i d h e
+
+-- how many entries are in use
+pub length-is : (t : Cache) (n : ℕ) → length (t .entries) ≡ 16 → n ≡ length (viewCache t) → n ≡ min (t .count) 16
+unfolding viewCache
+length-is t n l e = e ∙ counted-length viewCached (t .count) (t .entries) 16 l
 
 -- ── all but the first ──
 map-dropAt : {A B : Type 0} (f : A → B) (i : ℕ) (xs : List A) → map f (dropAt i xs) ≡ dropAt i (map f xs)
@@ -153,8 +157,7 @@ pub record Dating (cs : List C.Update) (keys : ℕ → List S.Place) (t r : Cach
 
 module _ {cs : List C.Update} {keys : ℕ → List S.Place} {t : Cache} {n : ℕ} where
   pub date-start : length (t .entries) ≡ 16 → n ≡ length (viewCache t) → Dating cs keys t t n 0
-  unfolding viewCache
-  date-start l e = record { made = remake-start l; count = refl; end = e ∙ counted-length viewCached (t .count) (t .entries) 16 l; form = λ f. f }
+  date-start l e = record { made = remake-start l; count = refl; end = length-is t n l e; form = λ f. f }
 
   module _ {r : Cache} {i : ℕ} (inv : Dating cs keys t r n i) where
     pub date-next : (d c : Cached) → i < n → viewCached c ≡ afterChanges cs (keys (viewCached (getD (r .entries) i d) .key)) (viewCached (getD (r .entries) i d)) → (cachedForm (getD (r .entries) i d) ≡ true → cachedForm c ≡ true)
@@ -191,11 +194,11 @@ module _ (c : Cached) (keys : Keys) (k : Key) (e : viewKey k ≡ viewKeys keys (
   field-of q h = h ∙ rw e
 
   -- does it stay
-  module _ (set : ℕ) (t : Bool) (a : t ≡ inDocuments (docs set) (viewKey k)) (x y : List M.Cached) where
-    pub leaves : t ≡ true → y ≡ cond (stays (docs set) (viewKeys keys) (viewCached c)) x y
+  module _ (set : ℕ) (t : Bool) (a : t ≡ inDocuments (docs set) (viewKey k)) where
+    pub leaves : t ≡ true → stays (docs set) (viewKeys keys) (viewCached c) ≡ false
     unfolding stays viewCached
     leaves h = rw (← e, ← a, h)
 
-    pub remains : {r : List M.Cached} → t ≡ false → r ≡ x → r ≡ cond (stays (docs set) (viewKeys keys) (viewCached c)) x y
+    pub remains : t ≡ false → stays (docs set) (viewKeys keys) (viewCached c) ≡ true
     unfolding stays viewCached
-    remains h q = q ∙ rw (← e, ← a, h)
+    remains h = rw (← e, ← a, h)

@@ -1,6 +1,6 @@
 // The cached keys, each with the fields that its places showed.
 ghost use mathlib.Core.Path.{_≡_};
-ghost use mathlib.Core.Bool.{true, cond};
+ghost use mathlib.Core.Bool.{true};
 ghost use mathlib.Core.List.{[], map};
 ghost use lib.ListN.{length};
 ghost use Rattle.rules.specs.Limits.{cacheLimit};
@@ -84,17 +84,6 @@ impl Cache {
         t
     }
 
-    fn push_if_stays(self, c: Cached, keys: Keys, set: u64) -> Self
-        ensures shows { λ r. ⌜ viewCache r ≡ cond (stays (docs set) (viewKeys keys) (viewCached c)) (pushed cacheLimit (viewCache self) (viewCached c)) (viewCache self) ⌝ }
-        ensures form { λ r. ⌜ (cachedForm c ≡ true → cacheForm self ≡ true → cacheForm r ≡ true) ⌝ }
-    {
-        let k = keys.key(c.key);
-        if k.in_documents(set) {
-            return self;
-        }
-        self.push(c)
-    }
-
     // The cached keys without a place in a document of the set.
     pub fn without(self, keys: Keys, set: u64) -> Self
         ensures shows { λ r. ⌜ viewCache r ≡ keep (stays (docs set) (viewKeys keys)) (viewCache self) ⌝ }
@@ -103,15 +92,19 @@ impl Cache {
         if set == 0 {
             return self;
         }
+        let n = self.len() as usize;
         let mut kept = Cache::empty();
+        let mut k: usize = 0;
         let mut i: usize = 0;
-        while i < Self::LIMIT {
-            if self.count as usize <= i {
-                return kept;
+        while i < n {
+            let key = keys.key(self.entries[i].key);
+            if !key.in_documents(set) {
+                kept.entries[k] = self.entries[i];
+                k += 1;
             }
-            kept = kept.push_if_stays(self.entries[i], keys, set);
             i += 1;
         }
+        kept.count = k as u8;
         kept
     }
 

@@ -14,7 +14,9 @@ use Rattle.rules.specs.Values as S
 use Rattle.rules.specs.Changes as C
 use Rattle.rules.specs.Tables as M
 use Rattle.rules.specs.Reading as D
+use Rattle.rules.specs.Effects.{touched}
 use Rattle.rules.proofs.Laws.{both}
+use Rattle.rules.proofs.Words.{run-untouched}
 use Rattle.keys.specs.View.{noPlace, viewPlace, viewKey, viewKeys}
 use Rattle.keys.specs.declared.Place.{Place}
 use Rattle.keys.specs.declared.Key.{Key}
@@ -25,7 +27,9 @@ use Rattle.field.proofs.ViewLaws.{form-of}
 use Rattle.changes.specs.View.{viewChanges}
 use Rattle.changes.specs.declared.Changes.{Changes}
 use Rattle.lists.specs.Find.{mapFrom}
-use Rattle.lists.proofs.Views.{counted-next, counted-gone, counted-length, push-room, push-full}
+use Rattle.lists.specs.Table.{counted}
+use Rattle.lists.proofs.Views.{counted-next, counted-gone, counted-length, push-room, push-full, map-same}
+use Rattle.lists.proofs.Indexed.{none-index}
 use Rattle.lists.proofs.Forms.{form-parts, form-empty, form-push, used-at}
 use Rattle.cached.specs.View.{noCached, withField, viewCached, afterChanges}
 use Rattle.cached.specs.Form.{isBlankField, cachedForm, isBlankCached}
@@ -65,6 +69,15 @@ pushed-fields t r f old q key cs i a b e = ap (λ (c : M.Cached). c .fields) a �
 pub dated-is : (c : Cached) (keys : Keys) (k : Key) (cs : List C.Update) {r : M.Cached} → viewKey k ≡ viewKeys keys (c .key) → r ≡ afterChanges cs (viewKey k) (viewCached c) → r ≡ afterChanges cs (viewKeys keys (viewCached c .key)) (viewCached c)
 unfolding viewCached
 dated-is c keys k cs e h = h ∙ ap (λ (qs : List S.Place). afterChanges cs qs (viewCached c)) e
+
+-- none of its places touched, and no field past them
+pub untouched-is : (c : Cached) (k : Key) (cs : List C.Update) {t : Bool} → length (c .fields) ≡ 4 → length (k .places) ≡ 4 → c .count ≤ k .count → t ≡ touched cs (viewKey k) → t ≡ false → viewCached c ≡ afterChanges cs (viewKey k) (viewCached c)
+unfolding afterChanges viewCached viewKey
+untouched-is c k cs l m h a e =
+    ap (λ (fs : List S.Field). record { key = c .key; fields = fs })
+    (map-same (λ i f. C.run cs (getD (viewKey k) i noPlace) f) 0 (counted viewField (c .count) (c .fields))
+    (λ j f o n. run-untouched cs (getD (viewKey k) j noPlace) f
+    (none-index (C.touches cs) (viewKey k) j noPlace (omega (arith, counted-length viewField (c .count) (c .fields) 4 l, counted-length viewPlace (k .count) (k .places) 4 m)) (sym a ∙ e))))
 
 module _ (c : Cached) (l : length (c .fields) ≡ 4) (f : Field) where
   pub field-room : c .count < 4 → viewCached (record { key = c .key; count = c .count + 1; fields = set (c .fields) (c .count) f }) ≡ withField (viewField f) (viewCached c)

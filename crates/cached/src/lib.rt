@@ -89,12 +89,18 @@ impl Cached {
         t
     }
 
-    // After changes, with the places that the table of keys gives it.
+    // After changes, with the places that the table of keys gives it. Where they touch none of these it is as it was,
+    // but for fields past the last place, which `after` takes for those of the empty place.
     pub fn up_to_date(self, keys: Keys, cs: Changes) -> Self
         ensures shows { λ r. ⌜ viewCached r ≡ afterChanges (viewChanges cs) (viewKeys keys (viewCached self .key)) (viewCached self) ⌝ }
         ensures form { λ r. ⌜ (cachedForm self ≡ true → cachedForm r ≡ true) ⌝ }
     {
         let key = keys.key(self.key);
+        if self.count <= key.count {
+            if !cs.touches_any(key) {
+                return self;
+            }
+        }
         self.after(key, cs)
     }
 }

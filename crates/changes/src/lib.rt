@@ -7,11 +7,13 @@ ghost use Rattle.rules.specs.Limits.{changeLimit};
 ghost use Rattle.rules.specs.Lists.{isEmpty, pushed};
 ghost use Rattle.rules.specs.Values.{samePlace};
 ghost use Rattle.rules.specs.Changes.{kindOf, isSet, fieldAfter, run, sets, touches, setsIt};
+ghost use Rattle.rules.specs.Effects.{touched};
 ghost use Rattle.field.specs.View.{viewField, fieldForm};
-ghost use Rattle.keys.specs.View.{viewPlace};
+ghost use Rattle.keys.specs.View.{viewPlace, viewKey};
 ghost use Rattle.changes.specs.View.{viewUpdate, viewChanges};
 ghost use Rattle.changes.specs.Form.{isUsed, isUnused, changesForm};
 use field::Field;
+use keys::Key;
 use keys::Place;
 
 // A change: its place, the number of its kind and its value.
@@ -140,6 +142,22 @@ impl Changes {
             }
             let change = self.items[i];
             if change.is_at(q) {
+                return true;
+            }
+            i += 1;
+        }
+        false
+    }
+
+    // Some change is to a place of the key.
+    pub fn touches_any(self, key: Key) -> bool
+        ensures { λ r. ⌜ r ≡ touched (viewChanges self) (viewKey key) ⌝ }
+    {
+        let n = key.len();
+        let mut i: u8 = 0;
+        while i < n {
+            let q = key.place(i);
+            if self.touches(q) {
                 return true;
             }
             i += 1;

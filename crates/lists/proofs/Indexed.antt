@@ -2,15 +2,15 @@
 use Prim.Native.Nat.{ℕ, zero, suc, _+_, _≤_, _<_}
 use native.Mathlib.Omega.{arith}
 use mathlib.Core.Path.{_≡_, refl, sym, _∙_, ap, fun-ext}
-use mathlib.Core.Bool.{Bool, true}
+use mathlib.Core.Bool.{Bool, true, false, not}
 use mathlib.Core.List.{List, [], _∷_, map}
 use lib.ListN.{length, getD, replicate, set, drop, length-map, List·getD-map, List·getD-eq-default, drop-of-length-le}
 use lib.Seq.{getD-set-same, getD-set-other}
 use lib.Dec.{eqb}
-use borrow.Author.Tests.{eqb-true, eqb-false}
+use borrow.Author.Tests.{eqb-true, eqb-false, not-true}
 use Rattle.rules.specs.Lists.{any, all, override, span, upto}
 use Rattle.rules.proofs.Laws.{byCase, both}
-use Rattle.rules.proofs.Tests.{all-head, all-tail}
+use Rattle.rules.proofs.Tests.{all-head, all-tail, any-none}
 use Rattle.lists.proofs.Loops.{drop-next, getD-within}
 use Rattle.lists.proofs.Views.{map-set}
 
@@ -36,11 +36,14 @@ copies-same view e zero a i h = refl
 copies-same view e (suc n) a zero h = h
 copies-same view e (suc n) a (suc i) h = copies-same view e n a i h
 
--- a test of every entry, at one of them, and after one is written
+-- a test of every entry, or of none, at one of them, and after one is written
 pub all-index : {A : Type 0} (p : A → Bool) (l : List A) (i : ℕ) (d : A) → i < length l → all p l ≡ true → p (getD l i d) ≡ true
 all-index p [] i d h a = absurd (omega arith)
 all-index p (x ∷ l) zero d h a = all-head p x l a
 all-index p (x ∷ l) (suc i) d h a = all-index p l i d (omega arith) (all-tail p x l a)
+
+pub none-index : {A : Type 0} (p : A → Bool) (l : List A) (i : ℕ) (d : A) → i < length l → any p l ≡ false → p (getD l i d) ≡ false
+none-index p l i d h a = not-true (p (getD l i d)) (all-index (λ x. not (p x)) l i d h (any-none p l a))
 
 pub all-set : {A : Type 0} (p : A → Bool) (l : List A) (i : ℕ) (a : A) → all p l ≡ true → p a ≡ true → all p (set l i a) ≡ true
 all-set p [] i a e h = refl

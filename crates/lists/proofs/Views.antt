@@ -1,6 +1,6 @@
 -- Loops over a table that is seen through a view: what is still to do is `drop i (counted view n xs)`.
 -- Assumes nothing.
-use mathlib.Core.Path.{_≡_, refl, _∙_, ap, sym}
+use mathlib.Core.Path.{_≡_, refl, _∙_, ap, ap₂, sym}
 use mathlib.Core.Logic.{_⊎_, inl, inr}
 use mathlib.Core.Bool.{Bool, true, false, not, cond}
 use mathlib.Core.List.{List, [], _∷_, _++_, append-nil, append-assoc, map}
@@ -224,6 +224,12 @@ pub map-is : {A B : Type 0} (g : A → B) (i : ℕ) (l : List A) → map g l ≡
 unfolding mapFrom
 map-is g i [] = refl
 map-is g i (x ∷ l) = ap (λ r. g x ∷ r) (map-is g (i + 1) l)
+
+-- where what is made of each element is what it was
+pub map-same : {A : Type 0} (g : ℕ → A → A) (i : ℕ) (l : List A) → ((j : ℕ) (x : A) → i ≤ j → j < i + length l → g j x ≡ x) → l ≡ mapFrom g i l
+unfolding mapFrom
+map-same g i [] h = refl
+map-same g i (x ∷ l) h = ap₂ _∷_ (sym (h i x (omega arith) (omega arith))) (map-same g (i + 1) l (λ j y a b. h j y (omega arith) (omega arith)))
 
 -- ---- a loop that makes each entry of a table anew: g is what happens to an entry's view
 pub record Remaking {A B : Type 0} (view : A → B) (g : B → B) (xs : List A) (k : ℕ) (vs : List A) (j : ℕ) : Type 0 where

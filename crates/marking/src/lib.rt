@@ -74,7 +74,7 @@ pub fn shown(
     let s = sessions.session(n);
     let own = s.changes;
     let key = keys.key(k);
-    let touched = asking::touched(own, key);
+    let touched = own.touches_any(key);
     if !touched {
         if cache.has(k) {
             let fields = showing::found(cache, k);
@@ -126,7 +126,7 @@ pub fn cached(
     let s = sessions.session(n);
     let changes = s.changes;
     let key = keys.key(k);
-    if asking::touched(changes, key) {
+    if changes.touches_any(key) {
         return cache;
     }
     if cache.has(k) {

@@ -10,8 +10,8 @@ session-requires c κs = search needs
 key-requires : tie.Need-key-requires
 key-requires c κs = search needs
 
-touched-requires : tie.Need-touched-requires
-touched-requires c κs = search needs
+touches-any-requires : tie.Need-touches-any-requires
+touches-any-requires c κs = search needs
 
 returns : tie.Need-returns
 returns c = (search (caches-none, needs), λ f g. g)
@@ -40,7 +40,7 @@ cached-spec =
     (tie.spec
     session-requires
     key-requires
-    touched-requires
+    touches-any-requires
     returns
     has-requires
     returns-2

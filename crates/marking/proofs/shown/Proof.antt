@@ -14,8 +14,8 @@ session-requires c κs = search needs
 key-requires : tie.Need-key-requires
 key-requires c κs = search needs
 
-touched-requires : tie.Need-touched-requires
-touched-requires c κs = search needs
+touches-any-requires : tie.Need-touches-any-requires
+touches-any-requires c κs = search needs
 
 has-requires : tie.Need-has-requires
 has-requires c κs = search needs
@@ -44,7 +44,7 @@ shown-spec =
     (tie.spec
     session-requires
     key-requires
-    touched-requires
+    touches-any-requires
     has-requires
     found-requires
     returns

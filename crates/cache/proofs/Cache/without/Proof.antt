@@ -1,53 +1,70 @@
--- `Cache::without` meets its contract.
+-- `Cache::without` meets its contract. The first k of the new entries are those before i that stay, and keep the form.
 use borrow.Author.Needs.{needs}
-use Prim.Native.Nat.{_-_}
+use borrow.Author.Tests.{not-true, not-false}
+use Prim.Native.Nat.{_-_, min}
 use mathlib.Core.Path.{_≡_}
-use mathlib.Core.Bool.{true}
-use Rattle.rules.specs.Lists.{keep}
-use Rattle.rules.specs.Effects as E
+use mathlib.Core.Logic.{⊎-elim}
+use Rattle.rules.specs.Effects.{stays}
 use Rattle.docset.specs.Sets.{docs}
 use Rattle.keys.specs.View.{viewKeys}
 use Rattle.lists.proofs.Loops.{length-mapped}
-use Rattle.lists.proofs.Views.{Keeping, keep-start, keep-next, keep-end, keep-past}
+use Rattle.lists.proofs.Sift.{Sifting, sift-start, sift-in, sift-out, sift-done}
 use Rattle.cached.specs.View.{viewCached}
+use Rattle.cached.specs.Form.{cachedForm, isBlankCached}
 use Rattle.cache.specs.View.{viewCache}
 use Rattle.cache.specs.Form.{cacheForm}
-use Rattle.cache.proofs.CacheLaws.{entry-form, none-lost}
+use Rattle.cache.proofs.CacheLaws.{none-lost, length-is, leaves, remains}
 use Rattle.cache.proofs.Cache.without.Statement.{statement}
 use Rattle.cache.proofs.Cache.without.Tie as tie
 
 abbrev Inv-loop : tie.InvT-loop
-Inv-loop keys set self kept₀ i₀ kept i =
-    Keeping viewCached (E.stays (docs set) (viewKeys keys)) (self .count) 16 (self .entries) (keep (E.stays (docs set) (viewKeys keys)) (viewCache self)) (viewCache kept) i
-    × (cacheForm self ≡ true → cacheForm kept ≡ true)
+Inv-loop keys set self n kept₀ k₀ i₀ kept k i = Sifting viewCached (stays (docs set) (viewKeys keys)) 16 cachedForm isBlankCached (self .count) (self .entries) k (kept .entries) i × (n ≡ min (self .count) 16)
 
 abbrev μ-loop : tie.MeasureT-loop
-μ-loop keys set self kept₀ i₀ kept i = 16 - i
+μ-loop keys set self n kept₀ k₀ i₀ kept k i = n - i
 
 returns : tie.Need-returns Inv-loop μ-loop
 returns c = (search (none-lost, needs), λ f. f)
+
+len-requires : tie.Need-len-requires Inv-loop μ-loop
+len-requires c κs = search needs
+
+cast-n : tie.Need-cast-n Inv-loop μ-loop
+cast-n c = search needs
 
 empty-requires : tie.Need-empty-requires Inv-loop μ-loop
 empty-requires c κs = search needs
 
 loop-holds : tie.Need-loop-holds Inv-loop μ-loop
-unfolding viewCache
-loop-holds c = (search (keep-start, length-mapped, needs), λ f. c .empty .ensures .1)
+unfolding viewCache cacheForm
+loop-holds c = (sift-start _ _ (search (length-mapped, needs)) (search (length-mapped, needs)) (c .empty .ensures .0) (c .empty .ensures .1), search (length-is, length-mapped, needs))
 
-cast-if2 : tie.Need-cast-if2 Inv-loop μ-loop
-cast-if2 c = search needs
+mul-key : tie.Need-mul-key Inv-loop μ-loop
+mul-key c = search needs
 
-returns-2 : tie.Need-returns-2 Inv-loop μ-loop
-returns-2 c = (search (keep-end, needs), c .before .before .loop .inv .1)
+element-copy-out-key : tie.Need-element-copy-out-key Inv-loop μ-loop
+element-copy-out-key c = search needs
 
-mul-push-if-stays : tie.Need-mul-push-if-stays Inv-loop μ-loop
-mul-push-if-stays c = search needs
+key-requires : tie.Need-key-requires Inv-loop μ-loop
+key-requires c κs = search needs
 
-element-copy-out-push-if-stays : tie.Need-element-copy-out-push-if-stays Inv-loop μ-loop
-element-copy-out-push-if-stays c = search needs
+in-documents-requires : tie.Need-in-documents-requires Inv-loop μ-loop
+in-documents-requires c κs = search needs
 
-push-if-stays-requires : tie.Need-push-if-stays-requires Inv-loop μ-loop
-push-if-stays-requires c κs = search needs
+mul-kept : tie.Need-mul-kept Inv-loop μ-loop
+mul-kept c = search needs
+
+element-copy-out-kept : tie.Need-element-copy-out-kept Inv-loop μ-loop
+element-copy-out-kept c = search needs
+
+mul-t23 : tie.Need-mul-t23 Inv-loop μ-loop
+mul-t23 c = search needs
+
+element-set-from-kept : tie.Need-element-set-from-kept Inv-loop μ-loop
+element-set-from-kept c = search needs
+
+add-k : tie.Need-add-k Inv-loop μ-loop
+add-k c = search needs
 
 add-i : tie.Need-add-i Inv-loop μ-loop
 add-i c = search needs
@@ -56,10 +73,20 @@ loop-less : tie.Need-loop-less Inv-loop μ-loop
 loop-less c = search needs
 
 loop-again : tie.Need-loop-again Inv-loop μ-loop
-loop-again c = (search (keep-next, needs), λ f. c .push-if-stays .ensures .1 (entry-form _ _ _ (search needs) f) (c .before .before .before .before .loop .inv .1 f))
+loop-again c = (
+  ⊎-elim
+      (λ w. rw (w .2, w .3) (sift-in (c .before .before .before .before .loop .inv .0) _ (search needs) (remains _ _ _ (c .before .before .key .ensures .0) _ _ (c .before .in-documents .ensures) (not-true _ (w .0 .taken)))))
+      (λ w. rw (w .1, w .2) (sift-out (c .before .before .before .before .loop .inv .0) _ (search needs) (leaves _ _ _ (c .before .before .key .ensures .0) _ _ (c .before .in-documents .ensures) (not-false _ (w .0 .left)))))
+      (c .if2 .came),
+  c .before .before .before .before .loop .inv .1,
+)
 
-returns-3 : tie.Need-returns-3 Inv-loop μ-loop
-returns-3 c = (search (keep-past, needs), c .before .loop .inv .1)
+cast-kept : tie.Need-cast-kept Inv-loop μ-loop
+cast-kept c = search needs
+
+returns-2 : tie.Need-returns-2 Inv-loop μ-loop
+unfolding viewCache cacheForm
+returns-2 c = (sift-done (c .before .loop .inv .0) (search needs), c .before .loop .inv .0 .form)
 
 pub without-spec : {M : Type 1} → statement M
 without-spec =
@@ -68,14 +95,21 @@ without-spec =
     Inv-loop
     μ-loop
     returns
+    len-requires
+    cast-n
     empty-requires
     loop-holds
-    cast-if2
-    returns-2
-    mul-push-if-stays
-    element-copy-out-push-if-stays
-    push-if-stays-requires
+    mul-key
+    element-copy-out-key
+    key-requires
+    in-documents-requires
+    mul-kept
+    element-copy-out-kept
+    mul-t23
+    element-set-from-kept
+    add-k
     add-i
     loop-less
     loop-again
-    returns-3)
+    cast-kept
+    returns-2)

@@ -1,19 +1,19 @@
--- `touched` meets its contract.
+-- `Changes::touches_any` meets its contract.
 use Prim.Native.Nat.{_-_}
 use borrow.Author.Needs.{needs}
 use mathlib.Core.Path.{sym, _∙_}
 use Rattle.rules.specs.Changes.{touches}
 use Rattle.keys.specs.View.{viewKey}
-use Rattle.changes.specs.View.{viewChanges}
 use Rattle.lists.proofs.Walks.{Asking, ask-start, ask-hit, ask-next, ask-end}
-use Rattle.asking.proofs.touched.Statement.{statement}
-use Rattle.asking.proofs.touched.Tie as tie
+use Rattle.changes.specs.View.{viewChanges}
+use Rattle.changes.proofs.Changes.touches_any.Statement.{statement}
+use Rattle.changes.proofs.Changes.touches_any.Tie as tie
 
 abbrev Inv-loop : tie.InvT-loop
-Inv-loop own key n i₀ i = Asking (touches (viewChanges own)) (viewKey key) i
+Inv-loop self key n i₀ i = Asking (touches (viewChanges self)) (viewKey key) i
 
 abbrev μ-loop : tie.MeasureT-loop
-μ-loop own key n i₀ i = n - i
+μ-loop self key n i₀ i = n - i
 
 len-requires : tie.Need-len-requires Inv-loop μ-loop
 len-requires c κs = search needs
@@ -42,8 +42,8 @@ loop-again c = ask-next (c .before .before .before .before .loop .inv) (c .befor
 returns-2 : tie.Need-returns-2 Inv-loop μ-loop
 returns-2 c = ask-end (c .before .loop .inv) (c .before .before .len .ensures) (search needs)
 
-pub touched-spec : {M : Type 1} → statement M
-touched-spec =
+pub touches-any-spec : {M : Type 1} → statement M
+touches-any-spec =
     tie.close
     (tie.spec
     Inv-loop
