@@ -78,7 +78,9 @@ pub fn after(p: Plant, ticks: i64) -> Left
     let now = later(p.clock, ticks_of(ticks));
     let sessions = p.sessions;
     let lost = sessions.lost(now);
-    let cache = p.cache.without(p.keys, lost);
+    let keys = p.keys;
+    let cached = p.cache;
+    let cache = cached.without(keys, lost);
     let sessions = sessions.lapsed(now);
     let queue = p.queue.lapsed(now);
     Left {

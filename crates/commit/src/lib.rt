@@ -71,8 +71,10 @@ pub fn after(p: Plant, session: i64) -> Left
     let s = open.session(n);
     let changes = s.changes;
     let keys = p.keys;
-    let buffer = buffered(p.buffer, n, changes);
-    let cache = p.cache.up_to_date(keys, changes);
+    let waiting = p.buffer;
+    let cached = p.cache;
+    let buffer = buffered(waiting, n, changes);
+    let cache = cached.up_to_date(keys, changes);
     let sessions = open.freed(n);
     Left {
         buffer,

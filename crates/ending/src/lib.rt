@@ -14,5 +14,6 @@ pub fn ended(p: Plant, session: i64) -> Sessions
     ensures form { λ r. ⌜ (plantForm p ≡ true → plantForm (withSessions p r) ≡ true) ⌝ }
 {
     let n = arguments::session(session);
-    p.sessions.freed(n)
+    let sessions = p.sessions;
+    sessions.freed(n)
 }

@@ -15,17 +15,19 @@ pub fn answer(p: Plant, session: i64, key: i64, words: &mut [i32]) -> Answer
     ensures answers { λ r. ⌜ Answers (Read session key) (now (words .entry)) p r ⌝ }
     ensures shows { λ r. ⌜ (keptPlant p ≡ true → now (words .exit) ≡ result (Read session key) (now (words .entry)) p .words) ⌝ }
 {
+    let store = p.store;
     let keys = p.keys;
     let cache = p.cache;
     let sessions = p.sessions;
     let buffer = p.buffer;
+    let rows = p.rows;
     let n = arguments::session(session);
     let k = arguments::index(key, Keys::LIMIT as u8);
     let refusal = turning::refusal(p.near, keys, cache, sessions, buffer, n, k, words.len());
     if refusal.is_refused() {
         return refusal;
     }
-    let s = marking::shown(p.near, p.store, keys, cache, sessions, buffer, p.rows, n, k);
+    let s = marking::shown(p.near, store, keys, cache, sessions, buffer, rows, n, k);
     let mark = s.mark;
     showing::write(s.fields, words);
     Answer::Read(mark)
@@ -41,11 +43,15 @@ pub fn after(p: Plant, session: i64, key: i64) -> Left
     ensures shows { λ r. ⌜ Performs (Read session key) p (left p r) ⌝ }
     ensures form { λ r. ⌜ (plantForm p ≡ true → plantForm (left p r) ≡ true) ⌝ }
 {
+    let store = p.store;
     let keys = p.keys;
+    let cached = p.cache;
     let old = p.sessions;
+    let buffer = p.buffer;
+    let rows = p.rows;
     let n = arguments::session(session);
     let k = arguments::index(key, Keys::LIMIT as u8);
-    let cache = marking::cached(p.near, p.store, keys, p.cache, old, p.buffer, p.rows, n, k);
+    let cache = marking::cached(p.near, store, keys, cached, old, buffer, rows, n, k);
     let sessions = old.shared(n, keys.key(k), p.clock);
     Left { cache, sessions }
 }
