@@ -1,4 +1,5 @@
-//! A second implementation of the stock cache, written from papers 00 and 01 alone.
+//! A second implementation of the stock cache, written from papers 00 and 01 and the open points
+//! decided for them.
 
 pub mod calls;
 pub mod field;

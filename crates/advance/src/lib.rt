@@ -63,7 +63,7 @@ pub fn answer(p: Plant, ticks: i64) -> Answer
     Answer::Advanced(now)
 }
 
-// What is left of the tables that the call writes.
+// The tables that the call writes, as it leaves them.
 pub struct Left {
     pub cache: Cache,
     pub sessions: Sessions,

@@ -77,7 +77,7 @@ pub fn answer(p: Plant, worker: i64, fate: i64) -> Answer
     reply(p.rows, number, f)
 }
 
-// What is left of the tables that the call writes.
+// The tables that the call writes, as it leaves them.
 pub struct Left {
     pub store: Store,
     pub rows: Rows,

@@ -43,7 +43,7 @@ pub fn answer(p: Plant) -> Answer
     Answer::Begun(number as u32)
 }
 
-// What is left of the tables that the call writes.
+// The tables that the call writes, as it leaves them.
 pub struct Left {
     pub sessions: Sessions,
     pub next: u64,

@@ -55,7 +55,7 @@ pub fn answer(p: Plant, session: i64) -> Answer
     Answer::Committed(count + 1)
 }
 
-// What is left of the tables that the call writes.
+// The tables that the call writes, as it leaves them.
 pub struct Left {
     pub buffer: Buffer,
     pub cache: Cache,

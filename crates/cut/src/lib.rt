@@ -24,7 +24,7 @@ pub fn answer(p: Plant, worker: i64) -> Answer
     Answer::Done
 }
 
-// What is left of the tables that the call writes.
+// The tables that the call writes, as it leaves them.
 pub struct Left {
     pub hands: Hands,
     pub queue: Queue,

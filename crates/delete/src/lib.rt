@@ -30,7 +30,7 @@ pub fn answer(p: Plant, worker: i64) -> Answer
     Answer::Deleted(p.buffer.has(number))
 }
 
-// What is left of the tables that the call writes.
+// The tables that the call writes, as it leaves them.
 pub struct Left {
     pub buffer: Buffer,
     pub hands: Hands,

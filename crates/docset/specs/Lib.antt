@@ -1,2 +1,2 @@
--- What the contracts of sets of documents cite.
+-- Sets of documents as the rules see them.
 pub mod Sets

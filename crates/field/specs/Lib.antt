@@ -1,2 +1,2 @@
--- What the contracts cite.
+-- A field and the answer of a change as the rules see them.
 pub mod View

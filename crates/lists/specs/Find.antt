@@ -1,5 +1,4 @@
 -- Searches, folds and maps over a list, from its front.
--- Assumes nothing.
 use mathlib.Core.Bool.{Bool, cond}
 use mathlib.Core.List.{List, [], _∷_}
 use Prim.Native.Nat.{ℕ, _+_}

@@ -15,7 +15,7 @@ ghost use Rattle.printing.specs.Line.{lineWidth, lineOf, taken};
 use answers::Answer;
 use telling::Told;
 
-// The most bytes that a line of an answer takes, with the words of the longest key.
+// Room for the line of any answer: as many numbers as one tells, and the words of the longest key.
 pub const LONGEST: usize = 423;
 
 const NEWLINE: u8 = 10;

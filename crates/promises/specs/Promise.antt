@@ -1,5 +1,5 @@
--- What the two functions of a call promise, for every plant that keeps the tables' rules: `answer` says what the call answers,
--- and `after` which plant it leaves. Both are those of the rules' `step`.
+-- What the two functions of a call promise, for every plant that keeps the tables' rules: `answer` gives what the rules' `step` answers, and with the
+-- tables that `after` gives for an accepted call the plant is that of `step`; and what is promised of the plant that any call leaves, refused or not.
 use mathlib.Core.Path.{_≡_}
 use mathlib.Core.Bool.{true, false}
 use mathlib.Core.List.{List}
@@ -16,7 +16,7 @@ use Rattle.answers.specs.View.{viewAnswer, isRefused}
 use Rattle.answers.specs.declared.Answer.{Answer}
 
 -- what the code chooses where the paper leaves it free: the oldest cached key gives way, and a sweep takes the first rows it may.
--- `Allowed` holds of it (`proofs/Chosen`); an entry over all calls will promise no more than that
+-- `Allowed` holds of it (`proofs/Chosen`), and the entry over all calls promises no more than that
 unfoldable pub chosen : M.Plant → Pick
 chosen p = record { gives = 0; swept = take sweepLimit (keep (M.removable p) (p .rows)) }
 

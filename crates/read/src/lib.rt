@@ -33,7 +33,7 @@ pub fn answer(p: Plant, session: i64, key: i64, words: &mut [i32]) -> Answer
     Answer::Read(mark)
 }
 
-// What is left of the tables that the call writes.
+// The tables that the call writes, as it leaves them.
 pub struct Left {
     pub cache: Cache,
     pub sessions: Sessions,

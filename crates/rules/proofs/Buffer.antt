@@ -218,10 +218,6 @@ pub buffer-room : (cs : List Update) (l : List Batch) → not (isEmpty cs) && le
 buffer-room cs l r e = byCase (leb bufferLimit (length l)) (λ t. absurd (true≢false (rw (e, t) at r))) (λ t. leb-false bufferLimit (length l) t)
 
 -- ── a carried session ──
-pub oldest-in : (n : ℕ) (l : List Batch) → isOldest n l ≡ true → has n (numbersOf l) ≡ true
-oldest-in n [] e = absurd (true≢false (sym e))
-oldest-in n (b ∷ l) e = rw e
-
 -- a session without a row finds room for one
 pub row-room : (n : ℕ) (rows : List ℕ) → leb rowLimit (length rows) && not (has n rows) ≡ false → has n rows ≡ false → length rows < rowLimit
 row-room n rows r e = byCase (leb rowLimit (length rows)) (λ t. absurd (true≢false (rw (t, e) at r))) (λ t. leb-false rowLimit (length rows) t)

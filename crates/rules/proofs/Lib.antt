@@ -1,5 +1,6 @@
 -- Laws and proofs over the rules.
--- What other crates cite: Steps (a call accepted or refused), Slots, Kept (the rules kept), KeptTest, Away (a value without the store), Answers.
+-- What other crates cite: Laws and Tests; of a call Steps; of kept plants KeptTest, KeptParts, KeptSlots, Buffer and Words; Away (a value without the store),
+-- Frames (what a call may write) and Demand3.
 pub mod Laws
 pub mod Tests
 pub mod Accepts

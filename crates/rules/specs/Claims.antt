@@ -1,4 +1,4 @@
--- What is claimed of one call, beside demand 3. Each claim is a type; the proof of it has its name in small letters.
+-- What is claimed of one call, beside demand 3. Each claim is a type; proofs/Theorem names the proof of each.
 use Prim.Native.Nat.{_*_, _+_, suc, ℕ}
 use mathlib.Core.Path.{_≡_}
 use mathlib.Core.Bool.{false, true}
@@ -60,7 +60,7 @@ Writes (Report s) p q = q ≡ withSlots (q .slots) p
 abbrev pub WritesOnly : Type 0
 WritesOnly = (c : Call) (lent : List ℤ) (pick : Pick) (p : Plant) → Writes c p ((step c lent pick p) .plant)
 
--- only a read writes into the caller's memory, and it lends it back as long as it was
+-- only a read writes into the caller's memory, and it leaves that as long as it was
 abbrev pub Fills : Call → List ℤ → List ℤ → Type 0
 Fills (Load d f k v) lent ws = ws ≡ lent
 Fills (Map k n m) lent ws = ws ≡ lent
