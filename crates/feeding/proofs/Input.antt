@@ -1,14 +1,15 @@
--- However an input is cut into pieces, its answers are those of its lines.
+-- However an input is cut into pieces, its answers are those of its lines, and demand 3 holds after it.
 use mathlib.Core.Path.{_≡_, refl, sym, subst}
 use mathlib.Core.Bool.{true}
 use mathlib.Core.List.{List, [], _∷_}
 use lib.ListN.{take}
 use Rattle.format.specs.Feeding.{Feeds}
 use Rattle.format.proofs.Feeding.{feeds-append, feeds-whole}
+use Rattle.format.proofs.Demand3.{lines-hold}
 use Rattle.plant.specs.View.{viewPlant}
 use Rattle.pending.specs.View.{viewPending}
 use Rattle.feeding.specs.Fed.{keptServer, Fed}
-use Rattle.feeding.specs.Input.{Taken, Takes, left, input, output, InputServed}
+use Rattle.feeding.specs.Input.{Taken, Takes, left, input, output, InputServed, InputHolds}
 use Rattle.feeding.specs.declared.Server.{Server}
 use Rattle.feeding.proofs.Laws.{nothing-fed}
 
@@ -35,3 +36,6 @@ input-served s start none k xs t out r h =
     (subst (λ p. Feeds [] p (input xs) (output xs) (viewPending (left s xs .pending)) (viewPlant (left s xs .plant))) start
     (subst (λ u. Feeds u (viewPlant (s .plant)) (input xs) (output xs) (viewPending (left s xs .pending)) (viewPlant (left s xs .plant))) none (w .feeds)))
     (h (w .keeps) .serves)
+
+pub input-holds : InputHolds
+input-holds s start none k xs t out r h = lines-hold _ _ _ (input-served s start none k xs t out r h)

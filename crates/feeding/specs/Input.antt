@@ -1,11 +1,13 @@
--- However an input is cut into pieces, its answers are those of its lines. Its proof is proofs/Input, from the promises of `feed` and `finish` alone.
+-- However an input is cut into pieces, its answers are those of its lines, and demand 3 holds of the plant left behind. The proof is proofs/Input,
+-- from the promises of `feed` and `finish` and the rules' theorem alone.
 use Prim.Native.Nat.{ℕ}
 use mathlib.Core.Path.{_≡_}
 use mathlib.Core.Bool.{true}
 use mathlib.Core.List.{List, [], _++_, _∷_}
 use lib.ListN.{take}
-use Rattle.rules.specs.Tables.{setup}
+use Rattle.rules.specs.Tables.{Plant, setup}
 use Rattle.format.specs.Serving.{linesOf, Serves}
+use Rattle.format.specs.Demand3.{Made}
 use Rattle.plant.specs.View.{viewPlant}
 use Rattle.pending.specs.View.{viewPending}
 use Rattle.feeding.specs.Fed.{keptServer, Fed, Finished}
@@ -35,9 +37,16 @@ abbrev pub output : List Taken → List ℕ
 output [] = []
 output (x ∷ xs) = take (x .server .wrote) (x .out) ++ output xs
 
--- `Server::start()` promises the premises on the first server
-abbrev pub InputServed : Type 0
-InputServed =
+-- what is claimed of an input's lines, the bytes answered and the plant left. `Server::start()` promises the premises on the first server
+abbrev pub OfInput : (List (List ℕ) → List ℕ → Plant → Type 0) → Type 0
+OfInput Claim =
     (s : Server) → viewPlant (s .plant) ≡ setup → viewPending (s .pending) ≡ [] → keptServer s ≡ true
     → (xs : List Taken) → Takes s xs → (out : List ℕ) (t : Server) → (keptServer (left s xs) ≡ true → Finished (left s xs) out t)
-    → Serves (linesOf (input xs)) setup (output xs ++ take (t .wrote) out) (viewPlant (t .plant))
+    → Claim (linesOf (input xs)) (output xs ++ take (t .wrote) out) (viewPlant (t .plant))
+
+abbrev pub InputServed : Type 0
+InputServed = OfInput (λ ls out q. Serves ls setup out q)
+
+-- demand 3 of the line program's server
+abbrev pub InputHolds : Type 0
+InputHolds = OfInput Made

@@ -5,3 +5,4 @@ pub mod Serving
 pub mod Feeding
 pub mod ReadBack
 pub mod Widths
+pub mod Demand3

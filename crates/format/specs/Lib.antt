@@ -1,6 +1,7 @@
 -- The line format.
 pub mod Bytes
 pub mod Columns
+pub mod Demand3
 pub mod Feeding
 pub mod Lines
 pub mod Serving
