@@ -4,3 +4,4 @@ pub mod Columns
 pub mod Feeding
 pub mod Lines
 pub mod Serving
+pub mod Worked
