@@ -5,3 +5,4 @@ pub mod Demand3
 pub mod Feeding
 pub mod Lines
 pub mod Serving
+pub mod Worked

@@ -1,21 +1,21 @@
 -- More runs worked out from paper 01: each refusal beside calls that are accepted, leases, marks, words, and the workers' calls.
-use Prim.Native.Nat.{suc, zero, ℕ}
+use Prim.Native.Nat.{_<_, _≤_, suc, zero, ℕ}
 use mathlib.Core.Path.{_≡_, refl}
 use mathlib.Core.Bool.{false, true}
 use mathlib.Core.List.{List, [], _++_, _∷_, map}
-use lib.ListN.{replicate}
+use lib.ListN.{length, replicate}
 use lib.IntN.{negsuc, pos}
 use Rattle.rules.specs.Lists.{pushed, span}
 use Rattle.rules.specs.Limits.{documentCount, fieldCount, keyCount, placeLimit, memberLimit, cacheLimit, slotLimit, changeLimit, bufferLimit, rowLimit, sweepLimit, workerCount, wordsPerField, leaseTicks, sessionTicks, advanceLimit, lastTick, firstSession, lastSession, highest}
-use Rattle.rules.specs.Refusals.{_⇒_}
-use Rattle.rules.specs.Values.{fits32, number}
-use Rattle.rules.specs.Changes.{set, unset, inc, add, push, pull, member, pullFirst, putLast, change, outcomeRefusal, fieldOf, meets, updated, fieldAfter, sets}
+use Rattle.rules.specs.Refusals.{refusalNumber, outOfRange, noSlot, wasDoomed, exclusiveElsewhere, changesFull, wrongKind, seventhMember, sumTooLarge, keyUndefined, slotsFull, numbersSpent, sessionBegun, keyDefined, badPlaces, bufferFull, queueLeased, wrongHand, nothingBuffered, rowsFull, storeAway, clockEnd, fewWords, badLine, _⇒_}
+use Rattle.rules.specs.Values.{fits32, number, list}
+use Rattle.rules.specs.Changes.{set, unset, inc, add, push, pull, becomes, member, pullFirst, putLast, change, outcomeRefusal, fieldOf, meets, updated, fieldAfter, sets}
 use Rattle.rules.specs.Tables.{documents, Plant, setup, removable, withRows, withClock, withNext}
 use Rattle.rules.specs.Reading.{showsIt}
 use Rattle.rules.specs.Calls.{arrives, lost, unreached, Load, Map, Begin, Change, Commit, Abandon, Advance, Take, Apply, Sweep, Store, Report, callNumber, fine, Pick}
 use Rattle.rules.specs.Conditions.{conditions}
 use Rattle.rules.specs.Effects.{loaded, mapped, begun, cacheAfter, onlyAt, afterRead, withExclusive, withLast, grant, changed, committed, abandoned, lapses, lapse, loses, isLost, inDocuments, stays, advanced, taken, carried, applied, deleted, cut, swept}
-use Rattle.rules.specs.Step.{accepted, step}
+use Rattle.rules.specs.Step.{accepted, step, Allowed}
 use Rattle.rules.specs.Kept.{kept}
 use Rattle.rules.specs.History.{saw, wrote, emptyHistory, note, Turn, turns, initial}
 use Rattle.rules.specs.Scenario.{Line, _gets_, yes, says, no, lineOf, after, Plays, load, pair, zeros, mapOne, mapTwo, read, edit, commit, report, advance, takes, apply, delete, cuts, near, origin, mapOrigin, editOrigin, setting}
@@ -461,6 +461,107 @@ pub record Runs : Type 0 where
       ∷ pos 2 ∷ pos 3 ∷ pos 5 ∷ pos 6 ∷ pos 6 ∷ pos 0 ∷ pos 0 ∷ pos 0
       ∷ pos 0 ∷ pos 0 ∷ pos 0 ∷ pos 0 ∷ pos 0 ∷ pos 0 ∷ pos 0 ∷ pos 0
       ∷ []
+  -- pull takes out the first equal member wherever it stands; a list without one stays
+  pub pulls : (change pull (pos 7) (list (pos 4 ∷ pos 7 ∷ pos 5 ∷ pos 7 ∷ [])) ≡ becomes (list (pos 4 ∷ pos 5 ∷ pos 7 ∷ [])))
+      × (change pull (pos 9) (list (pos 4 ∷ pos 7 ∷ [])) ≡ becomes (list (pos 4 ∷ pos 7 ∷ [])))
+  -- 14: an unused pair of field 0, a place twice apart, and twice after another
+  pub badPairs : Plays setup
+      (Map (pos 1) (pos 1) (record { first = pair 1 1; second = zeros; third = pair 1 0; fourth = zeros }) gets no 14
+      ∷ Map (pos 1) (pos 3) (record { first = pair 1 1; second = pair 1 2; third = pair 1 1; fourth = zeros }) gets no 14
+      ∷ Map (pos 1) (pos 3) (record { first = pair 1 1; second = pair 1 2; third = pair 1 2; fourth = zeros }) gets no 14
+      ∷ Map (pos 1) (pos 3) (record { first = pair 1 1; second = pair 1 2; third = zeros; fourth = zeros }) gets yes
+      ∷ [])
+  -- 12: a session has ever begun, open or not
+  pub everBegins : Plays setup (Begin gets says 1 ∷ Abandon (pos 1) gets yes ∷ mapOrigin gets no 12 ∷ load 0 0 set (pos 1) gets no 12 ∷ [])
+  -- of eight sessions the doomed one of lowest number gives its slot; those that are open stay
+  pub reused : Plays setup
+      (mapOrigin gets yes
+      ∷ begins 8 0
+      ++ (read 5 0 gets says 1
+      ∷ read 7 0 gets says 0
+      ∷ editOrigin 2 set (pos 1) gets says 1
+      ∷ Begin gets says 9
+      ∷ report 1 gets (0 ∷ 0 ∷ 0 ∷ 0 ∷ [])
+      ∷ report 2 gets (0 ∷ 0 ∷ 1 ∷ 1 ∷ [])
+      ∷ report 5 gets no 2
+      ∷ report 7 gets no 3
+      ∷ []))
+  -- a report counts every document held
+  pub counted : Plays setup
+      (mapTwo 0 (pair 1 0) (pair 2 0) gets yes
+      ∷ Begin gets says 1
+      ∷ read 1 0 gets says 1
+      ∷ edit 1 63 0 set (pos 1) gets says 1
+      ∷ edit 1 62 0 set (pos 1) gets says 2
+      ∷ edit 1 61 0 set (pos 1) gets says 3
+      ∷ edit 1 61 1 set (pos 1) gets says 4
+      ∷ report 1 gets (0 ∷ 2 ∷ 3 ∷ 4 ∷ [])
+      ∷ [])
+  -- a read under the session's own exclusive lease leaves its grant
+  pub readExclusive : Plays setup
+      (mapOrigin gets yes
+      ∷ Begin gets says 1
+      ∷ editOrigin 1 set (pos 4) gets says 1
+      ∷ advance 200 gets says 200
+      ∷ read 1 0 gets says 2
+      ∷ report 1 gets (0 ∷ 0 ∷ 1 ∷ 1 ∷ [])
+      ∷ advance 100 gets says 300
+      ∷ report 1 gets no 3
+      ∷ [])
+  -- a lapse drops the keys of every document held, also of those whose own lease is live, and by any of their places
+  pub lapseDropsAll : Plays setup
+      (mapOrigin gets yes
+      ∷ mapTwo 1 (pair 1 0) (pair 2 0) gets yes
+      ∷ mapOne 2 (pair 2 1) gets yes
+      ∷ Begin gets says 1
+      ∷ read 1 0 gets says 1
+      ∷ advance 200 gets says 200
+      ∷ Begin gets says 2
+      ∷ read 2 1 gets says 1
+      ∷ read 1 2 gets says 1
+      ∷ advance 100 gets says 300
+      ∷ read 2 1 gets says 1
+      ∷ read 2 2 gets says 1
+      ∷ [])
+  pub lifeDrops : Plays setup
+      (mapOrigin gets yes
+      ∷ Begin gets says 1
+      ∷ advance 900 gets says 900
+      ∷ read 1 0 gets says 1
+      ∷ advance 100 gets says 1000
+      ∷ Begin gets says 2
+      ∷ read 2 0 gets says 1
+      ∷ [])
+  -- mark 2 by an own change to any place of the key
+  pub markBySecond : Plays setup
+      (mapTwo 0 zeros (pair 1 0) gets yes
+      ∷ Begin gets says 1
+      ∷ edit 1 1 0 set (pos 4) gets says 1
+      ∷ read 1 0 gets says 2
+      ∷ read 1 0 gets says 2
+      ∷ [])
+  -- a cached key alone makes its places known, to a read of another key and to a change
+  pub cachedKnown : Plays setup
+      (mapOrigin gets yes
+      ∷ mapOne 1 zeros gets yes
+      ∷ Begin gets says 1
+      ∷ read 1 0 gets says 1
+      ∷ near false gets yes
+      ∷ read 1 1 gets says 1
+      ∷ editOrigin 1 inc (pos 5) gets says 1
+      ∷ read 1 0 gets says 2
+      ∷ [])
+  -- a cut of another worker, and ticks that pass, leave a lease in its worker's name: its delete ends it
+  pub leaseKept : Plays setup
+      (setting 1 1
+      ++ setting 2 2
+      ++ (takes 0 gets says 1
+      ∷ cuts 1 gets yes
+      ∷ advance 1 gets says 1
+      ∷ apply 0 arrives gets says 1
+      ∷ delete 0 gets says 1
+      ∷ takes 1 gets says 2
+      ∷ []))
   -- ── two conditions hold: the first in the paper's order is given ──
   pub orderLoad : Plays setup
       (load 0 0 set (pos 1) gets yes
@@ -508,6 +609,8 @@ pub record Runs : Type 0 where
       ∷ edit 5 64 0 push (pos 1) gets no 1
       ∷ edit 5 8 0 push (pos 1) gets no 2
       ∷ []))
+  -- 20 comes before 6, 7 and 8: what is unknown is not judged
+  pub orderAway : Plays setup (load 1 0 set (pos 7) gets yes ∷ near false gets yes ∷ Begin gets says 1 ∷ edit 1 1 0 push (pos 1) gets no 20 ∷ [])
   pub orderCommit : Plays setup
       (changing 32 0
       ++ (Begin gets says 33
@@ -539,6 +642,14 @@ pub record Runs : Type 0 where
       ∷ workerCount ∷ sweepLimit ∷ wordsPerField ∷ leaseTicks ∷ sessionTicks ∷ advanceLimit ∷ lastTick ∷ firstSession ∷ lastSession ∷ []
       ≡ 64 ∷ 4 ∷ 32 ∷ 4 ∷ 6 ∷ 16 ∷ 8 ∷ 8 ∷ 32 ∷ 48
       ∷ 4 ∷ 16 ∷ 8 ∷ 300 ∷ 1000 ∷ 65535 ∷ 99999999999 ∷ 1 ∷ 4294967295 ∷ []
+  -- the free choices: one of sixteen gives way, and a sweep takes at most sixteen
+  pub choices : (pick : Pick) (p : Plant) → Allowed pick p → (pick .gives < 16) × (length (pick .swept) ≤ 16)
+  -- the refusals by their numbers
+  pub refusals : map refusalNumber
+      (outOfRange ∷ noSlot ∷ wasDoomed ∷ exclusiveElsewhere ∷ changesFull ∷ wrongKind ∷ seventhMember ∷ sumTooLarge ∷ keyUndefined ∷ slotsFull
+      ∷ numbersSpent ∷ sessionBegun ∷ keyDefined ∷ badPlaces ∷ bufferFull ∷ queueLeased ∷ wrongHand ∷ nothingBuffered ∷ rowsFull ∷ storeAway
+      ∷ clockEnd ∷ fewWords ∷ badLine ∷ [])
+      ≡ span 1 23
   -- the calls by their numbers
   pub numbers : map callNumber
       (load 0 0 set (pos 1) ∷ mapOrigin ∷ Begin ∷ read 1 0 ∷ editOrigin 1 set (pos 1) ∷ commit 1 ∷ Abandon (pos 1) ∷ advance 0 ∷ takes 0
@@ -593,18 +704,32 @@ runs =
       markByPlace = refl;
       seventeen = refl;
       six = refl;
+      pulls = (refl, refl);
+      badPairs = refl;
+      everBegins = refl;
+      reused = refl;
+      counted = refl;
+      readExclusive = refl;
+      lapseDropsAll = refl;
+      lifeDrops = refl;
+      markBySecond = refl;
+      cachedKnown = refl;
+      leaseKept = refl;
       orderLoad = refl;
       orderMap = refl;
       orderBegin = refl;
       orderRead = refl;
       orderWords = refl;
       orderChange = refl;
+      orderAway = refl;
       orderCommit = refl;
       orderAdvance = refl;
       orderApply = refl;
       pages = refl;
       startAndNotes = (refl, refl, refl, refl);
       limits = refl;
+      choices = λ pick p a. (a .oneOfSixteen, a .atMost);
+      refusals = refl;
       numbers = refl;
       computes = (refl, refl);
     }
