@@ -497,6 +497,38 @@ pub record Runs : Type 0 where
       ∷ edit 1 61 1 set (pos 1) gets says 4
       ∷ report 1 gets (0 ∷ 2 ∷ 3 ∷ 4 ∷ [])
       ∷ [])
+  -- a session's life, its leases and the queue lease count from the tick at which they began
+  pub laterLife : Plays setup
+      (advance 500 gets says 500
+      ∷ Begin gets says 1
+      ∷ advance 999 gets says 1499
+      ∷ report 1 gets (0 ∷ 0 ∷ 0 ∷ 0 ∷ [])
+      ∷ advance 1 gets says 1500
+      ∷ report 1 gets no 3
+      ∷ [])
+  pub laterLeases : Plays setup
+      (mapOrigin gets yes
+      ∷ advance 500 gets says 500
+      ∷ Begin gets says 1
+      ∷ Begin gets says 2
+      ∷ read 1 0 gets says 1
+      ∷ edit 2 1 0 set (pos 1) gets says 1
+      ∷ advance 299 gets says 799
+      ∷ report 1 gets (0 ∷ 1 ∷ 0 ∷ 0 ∷ [])
+      ∷ report 2 gets (0 ∷ 0 ∷ 1 ∷ 1 ∷ [])
+      ∷ advance 1 gets says 800
+      ∷ report 1 gets no 3
+      ∷ report 2 gets no 3
+      ∷ [])
+  pub laterQueue : Plays setup
+      (advance 500 gets says 500
+      ∷ setting 1 1
+      ++ (takes 0 gets says 1
+      ∷ advance 299 gets says 799
+      ∷ takes 1 gets no 16
+      ∷ advance 1 gets says 800
+      ∷ takes 1 gets says 1
+      ∷ []))
   -- a read under the session's own exclusive lease leaves its grant
   pub readExclusive : Plays setup
       (mapOrigin gets yes
@@ -540,17 +572,20 @@ pub record Runs : Type 0 where
       ∷ read 1 0 gets says 2
       ∷ read 1 0 gets says 2
       ∷ [])
-  -- a cached key alone makes its places known, to a read of another key and to a change
+  -- a cached key alone makes each of its places known, to a read of another key and to a change
   pub cachedKnown : Plays setup
-      (mapOrigin gets yes
-      ∷ mapOne 1 zeros gets yes
+      (mapTwo 0 zeros (pair 0 1) gets yes
+      ∷ mapOne 1 (pair 0 1) gets yes
       ∷ Begin gets says 1
       ∷ read 1 0 gets says 1
       ∷ near false gets yes
       ∷ read 1 1 gets says 1
-      ∷ editOrigin 1 inc (pos 5) gets says 1
+      ∷ read 1 0 gets says 0
+      ∷ edit 1 0 1 inc (pos 5) gets says 1
+      ∷ editOrigin 1 inc (pos 5) gets says 2
       ∷ read 1 0 gets says 2
       ∷ [])
+  pub abandonAway : Plays setup (near false gets yes ∷ Begin gets says 1 ∷ Abandon (pos 1) gets yes ∷ [])
   -- a cut of another worker, and ticks that pass, leave a lease in its worker's name: its delete ends it
   pub leaseKept : Plays setup
       (setting 1 1
@@ -709,11 +744,15 @@ runs =
       everBegins = refl;
       reused = refl;
       counted = refl;
+      laterLife = refl;
+      laterLeases = refl;
+      laterQueue = refl;
       readExclusive = refl;
       lapseDropsAll = refl;
       lifeDrops = refl;
       markBySecond = refl;
       cachedKnown = refl;
+      abandonAway = refl;
       leaseKept = refl;
       orderLoad = refl;
       orderMap = refl;
