@@ -333,6 +333,10 @@ feed-end s piece lent out t f all some = (
 )
 
 -- ── the end of input ──
+nothing-in : (l : List ℕ) → isEmpty l ≡ true → l ≡ []
+nothing-in [] e = refl
+nothing-in (b ∷ l) e = absurd (true≢false (sym e))
+
 -- a number that is not 0 is 1 or more
 byOne : (n : ℕ) → (n ≡ 0 → _≡_ {A = ℕ} 1 0) → 1 ≤ n
 byOne zero h = absurd (omega (arith, h refl))
@@ -340,7 +344,14 @@ byOne (suc n) h = omega arith
 
 module _ (s : Server) (e : Bool) (ee : e ≡ isEmpty (viewPending (s .pending))) where
   pub no-last : e ≡ true → (lent : List ℕ) → (longest ≤ length lent → keptServer s ≡ true → Finished s lent (record { plant = s .plant; pending = s .pending; used = 0; wrote = 0 }))
-  no-last t lent r k = record { serves = rw (← ee, t) (refl, refl); keeps = opened s k .plant }
+  no-last t lent r k =
+      let o = opened s k in
+      let none : viewPending (s .pending) ≡ [] = nothing-in (viewPending (s .pending)) (sym ee ∙ t) in
+      record {
+        serves = rw (← ee, t) (refl, refl);
+        ends = none;
+        keeps = closed (record { plant = s .plant; pending = s .pending; used = 0; wrote = 0 }) (record { plant = o .plant; free = o .free; short = o .short });
+      }
 
   -- the line that byte 10 would have ended
   pub last-line : e ≡ false → (lent out : List ℕ) (t : Server) → (keptServer s ≡ true → Fed s (newline ∷ []) out t) → Within t (newline ∷ []) lent → (longest ≤ length lent → t .used ≡ 0 → _≡_ {A = ℕ} 1 0)
@@ -351,4 +362,5 @@ module _ (s : Server) (e : Bool) (ee : e ≡ isEmpty (viewPending (s .pending)))
       let all : take (t .used) (newline ∷ []) ≡ newline ∷ [] = take-all (t .used) (newline ∷ []) (byOne (t .used) (some r)) in
       let one : complete (v ++ take (t .used) (newline ∷ [])) ≡ v ∷ [] = ap (λ l. complete (v ++ l)) all ∙ end-complete v [] (opened s k .free) refl [] ∙ ap (λ l. l ∷ []) (append-nil v) in
       let last : lastLine v ≡ v ∷ [] = rw (← ee, h) refl in
-      record { serves = subst (λ ls. Serves ls (viewPlant (s .plant)) (take (t .wrote) out) (viewPlant (t .plant))) (one ∙ sym last) (x .feeds .serves); keeps = opened t (x .keeps) .plant }
+      let none : take lineLimit (unended (v ++ take (t .used) (newline ∷ []))) ≡ [] = ap (λ l. take lineLimit (unended (v ++ l))) all ∙ ap (take lineLimit) (end-unended v [] (opened s k .free) refl []) in
+      record { serves = subst (λ ls. Serves ls (viewPlant (s .plant)) (take (t .wrote) out) (viewPlant (t .plant))) (one ∙ sym last) (x .feeds .serves); ends = x .feeds .keeps ∙ none; keeps = x .keeps }

@@ -3,7 +3,7 @@
 use Prim.Native.Nat.{_+_, _<_, _≤_, ℕ}
 use mathlib.Core.Path.{_≡_}
 use mathlib.Core.Bool.{Bool, _&&_, not, true}
-use mathlib.Core.List.{List}
+use mathlib.Core.List.{List, []}
 use lib.ListN.{length, take}
 use lib.Dec.{leb}
 use Rattle.format.specs.Bytes.{lineLimit}
@@ -38,7 +38,8 @@ pub record Fed (s : Server) (piece out : List ℕ) (t : Server) : Type 0 where
   pub feeds : Feeds (viewPending (s .pending)) (viewPlant (s .plant)) (take (t .used) piece) (take (t .wrote) out) (viewPending (t .pending)) (viewPlant (t .plant))
   pub keeps : keptServer t ≡ true
 
--- the end of input
+-- the end of input: nothing is left of a line
 pub record Finished (s : Server) (out : List ℕ) (t : Server) : Type 0 where
   pub serves : Serves (lastLine (viewPending (s .pending))) (viewPlant (s .plant)) (take (t .wrote) out) (viewPlant (t .plant))
-  pub keeps : keptPlant (t .plant) ≡ true
+  pub ends : viewPending (t .pending) ≡ []
+  pub keeps : keptServer t ≡ true
