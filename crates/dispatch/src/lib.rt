@@ -11,8 +11,8 @@ use answers::Answer;
 use calls::Call;
 use plant::Plant;
 
-// A call that sees no field. These hand no table on, so a plant that is lent to them where it lies is not copied; whoever serves many
-// calls asks read and change by himself.
+// The answer of a call that sees no field. None of these hands a table on, so the plant is not copied on its way through here. Read and
+// change do, so a loop that owns the plant asks them directly.
 pub fn plain(p: Plant, c: Call) -> Answer
     ensures { λ r. ⌜ (isPlain c ≡ true → (lent : List ℤ) → Answers (viewCall c) lent p r) ⌝ }
 {

@@ -12,7 +12,7 @@ use mir.Val.{SFits}
 use types.Run.{OneOf, miss}
 use denote.Enum.Declared.{tagOf}
 use borrow.Author.Tests.{le-leb, leb-true}
-use Rattle.rules.specs.Limits.{keyCount, wordsPerField}
+use Rattle.rules.specs.Limits.{keyCount, placeLimit, wordsPerField}
 use Rattle.rules.specs.Values.{below, natOf, Place}
 use Rattle.rules.specs.Kept.{kept}
 use Rattle.rules.specs.Step.{Allowed}
@@ -98,7 +98,7 @@ module _ (p : Plant) (x : Said) (bs lent out : List ℕ) (len : ℕ) (room : lon
 -- a call, of every plant on which that is its answer
 pub told : (keys : Keys) (c : Call) (a : Answer) (ws : List ℤ) (n : ℕ) (lent out : List ℕ) (len : ℕ) → n ≡ wordsPerField * placesShown (viewCall c) (viewKeys keys)
     → out ≡ printed (ended (answerLine (viewAnswer a) (take n ws))) lent → len ≡ taken (ended (answerLine (viewAnswer a) (take n ws))) lent
-    → (p : Plant) → p .keys ≡ keys → Answers (viewCall c) lentWords p a → (keptPlant p ≡ true → ws ≡ result (viewCall c) lentWords p .words) → length ws ≡ 32
+    → (p : Plant) → p .keys ≡ keys → Answers (viewCall c) lentWords p a → (keptPlant p ≡ true → ws ≡ result (viewCall c) lentWords p .words) → length ws ≡ wordsPerField * placeLimit
     → longest ≤ length lent → keptPlant p ≡ true → Tells (Says c) p lent out len a
 unfolding viewPlant
 told keys c a ws n lent out len en eo el p ek answers fills lw room k =

@@ -3,7 +3,7 @@ ghost use Prim.Native.Nat.{_*_, _≤_, _<_};
 ghost use mathlib.Core.Path.{_≡_};
 ghost use mathlib.Core.Bool.{true};
 ghost use lib.ListN.{length};
-ghost use Rattle.rules.specs.Limits.{wordsPerField};
+ghost use Rattle.rules.specs.Limits.{wordsPerField, placeLimit};
 ghost use Rattle.format.specs.Lines.{said};
 ghost use Rattle.format.specs.Serving.{placesShown, lentWords};
 ghost use Rattle.calls.specs.View.{viewCall};
@@ -18,14 +18,14 @@ ghost use Rattle.serving.specs.Answered.{Answered, Tells};
 use answers::Answer;
 use answers::Refusal;
 use calls::Call;
+use field::Field;
+use keys::Key;
 use keys::Keys;
 use lines::Said;
 use plant::Plant;
 
-const WORDS_PER_FIELD: usize = 8;
-
 // The words of the longest key.
-pub const WORDS: usize = 32;
+pub const WORDS: usize = Field::WORDS * Key::LIMIT;
 
 // The plant left, and how many bytes were printed.
 pub struct Served {
@@ -45,12 +45,12 @@ fn shown(keys: Keys, c: Call) -> usize
         return 0;
     }
     let key = keys.key(number);
-    WORDS_PER_FIELD * key.len() as usize
+    Field::WORDS * key.len() as usize
 }
 
 // Prints what a call answers, with the words that it shows: of every plant with these keys on which that is the answer.
 pub fn tell(keys: Keys, c: Call, a: Answer, words: &[i32], out: &mut [u8]) -> usize
-    ensures tells { λ r. ⌜ ((p : Plant) → p .keys ≡ keys → Answers (viewCall c) lentWords p a → (keptPlant p ≡ true → now (words .entry) ≡ result (viewCall c) lentWords p .words) → length (now (words .entry)) ≡ 32 → longest ≤ length (now (out .entry)) → keptPlant p ≡ true → Tells (Says c) p (now (out .entry)) (now (out .exit)) r a) ⌝ }
+    ensures tells { λ r. ⌜ ((p : Plant) → p .keys ≡ keys → Answers (viewCall c) lentWords p a → (keptPlant p ≡ true → now (words .entry) ≡ result (viewCall c) lentWords p .words) → length (now (words .entry)) ≡ wordsPerField * placeLimit → longest ≤ length (now (out .entry)) → keptPlant p ≡ true → Tells (Says c) p (now (out .entry)) (now (out .exit)) r a) ⌝ }
     ensures within { λ r. ⌜ r ≤ length (now (out .entry)) ⌝ }
 {
     let n = shown(keys, c);

@@ -1,6 +1,6 @@
 -- `feed` meets its contract. What holds of a line is said once, at the place where its end is found (`Line`) and at the place where its answer
 -- is printed (`Printed`); each way back to the loop's head adds what its call leaves.
-use Prim.Native.Nat.{ℕ, _-_, _<_, _+_, _≤_}
+use Prim.Native.Nat.{ℕ, _-_, _<_, _+_, _*_, _≤_}
 use native.Mathlib.Omega.{arith}
 use mathlib.Core.Path.{_≡_, refl, sym, _∙_, ap}
 use mathlib.Core.Logic.{⊎-elim}
@@ -8,6 +8,7 @@ use mathlib.Core.List.{[]}
 use lib.ListN.{length}
 use borrow.Rule.Slice.PartMut.{putMid}
 use borrow.Author.Needs.{needs}
+use Rattle.rules.specs.Limits.{placeLimit, wordsPerField}
 use Rattle.calls.specs.declared.Call.the-variants.{Read, Change, Commit, Advance, Take, Apply, Delete, Cut}
 use Rattle.calls.proofs.Back.{back1, back2, back5}
 use Rattle.lines.specs.View.{viewSaid}
@@ -149,7 +150,7 @@ question c =
     (λ w. asked-plain _ p _ _ _ _ _ (c .before .before .said .given .1) (w .2) (w .3) (w .4) (not-seeing (c .before .before .said .given .0 .0) (w .0 .keys3)) (w .1 .ensures))) (c .match2 .came)
 
 -- ── and printed ──
-counted : (c : tie.At-match2-came Inv-loop μ-loop) → length (c .match2 .words) ≡ 32
+counted : (c : tie.At-match2-came Inv-loop μ-loop) → length (c .match2 .words) ≡ wordsPerField * placeLimit
 counted c = ⊎-elim (λ w. rw (w .7) (search (w .5 .given, needs))) (⊎-elim (λ w. rw (w .5) refl) (λ w. rw (w .3) refl)) (c .match2 .came)
 
 slice-aggregate-tell : tie.Need-slice-aggregate-tell Inv-loop μ-loop
