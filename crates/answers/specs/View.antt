@@ -1,7 +1,6 @@
 -- Answers as the rules see them. The rules give each its numbers: `refusalNumber`, `markNumber`, `replyNumber`.
-use Prim.Native.Nat.{ℕ}
 use mathlib.Core.Bool.{Bool, false, true}
-use mathlib.Core.List.{List, [], _∷_}
+use mathlib.Core.List.{[], _∷_}
 use Rattle.rules.specs.Lists.{bit}
 use Rattle.rules.specs.Refusals as R
 use Rattle.rules.specs.Calls as C

@@ -1,2 +1,2 @@
--- Which calls see fields.
+-- Which calls ask what a session sees.
 pub mod Plain

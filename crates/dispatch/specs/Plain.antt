@@ -1,4 +1,4 @@
--- The calls that see no field: any but read and change.
+-- The calls that do not ask what a session sees: any but read and change.
 use mathlib.Core.Bool.{Bool, true, false}
 use Rattle.calls.specs.declared.Call.{Call}
 use Rattle.calls.specs.declared.Call.the-variants.{Load, Map, Begin, Read, Change, Commit, Abandon, Advance, Take, Apply, Delete, Cut, Sweep, Store, Report}

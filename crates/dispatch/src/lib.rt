@@ -11,7 +11,7 @@ use answers::Answer;
 use calls::Call;
 use plant::Plant;
 
-// The answer of a call that sees no field. None of these hands a table on, so the plant is not copied on its way through here. Read and
+// The answer of a call that does not ask what a session sees. None of these hands a table on, so the plant is not copied on its way through here. Read and
 // change do, so a loop that owns the plant asks them directly.
 pub fn plain(p: Plant, c: Call) -> Answer
     ensures { λ r. ⌜ (isPlain c ≡ true → (lent : List ℤ) → Answers (viewCall c) lent p r) ⌝ }

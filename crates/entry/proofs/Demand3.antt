@@ -1,12 +1,12 @@
 -- Demand 3 of the code: a list of calls through the entry is a list of the rules' turns, so the rules' theorem speaks of it.
 use mathlib.Core.Path.{_≡_, refl, sym, _∙_, ap, subst}
-use mathlib.Core.Bool.{true, _&&_, true≢false}
+use mathlib.Core.Bool.{true, true≢false}
 use mathlib.Core.List.{List, [], _++_, _∷_, map}
 use lib.ListN.{length}
 use Rattle.rules.specs.Lists.{all, isEmpty}
 use Rattle.rules.specs.Tables as M
 use Rattle.rules.specs.Calls.{Call}
-use Rattle.rules.specs.History.{History, Turn, World, does, turn, turns, AllAllowed, initial, emptyHistory, noteAnswer, wholeHistory}
+use Rattle.rules.specs.History.{History, Turn, World, turn, turns, AllAllowed, initial, emptyHistory, noteAnswer, wholeHistory}
 use Rattle.rules.specs.Demand3 as R
 use Rattle.rules.specs.Demand3.{isFine, NoneRefused}
 use Rattle.rules.proofs.Laws.{both}

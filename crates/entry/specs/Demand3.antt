@@ -10,7 +10,7 @@ use Rattle.rules.specs.Lists.{all}
 use Rattle.rules.specs.Limits.{workerCount}
 use Rattle.rules.specs.Tables as M
 use Rattle.rules.specs.Calls as C
-use Rattle.rules.specs.History.{History, World, emptyHistory, noteAnswer, wholeHistory}
+use Rattle.rules.specs.History.{History, emptyHistory, noteAnswer, wholeHistory}
 use Rattle.rules.specs.Demand3.{FirstPart, CommitOrder, AllRight, Preparation, preparing, Prepares, rounds, isFine}
 use Rattle.plant.specs.View.{viewPlant, keptPlant}
 use Rattle.plant.specs.declared.Plant.{Plant}

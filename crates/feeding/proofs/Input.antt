@@ -8,7 +8,7 @@ use Rattle.format.proofs.Feeding.{feeds-append, feeds-whole}
 use Rattle.format.proofs.Demand3.{lines-hold}
 use Rattle.plant.specs.View.{viewPlant}
 use Rattle.pending.specs.View.{viewPending}
-use Rattle.feeding.specs.Fed.{keptServer, Fed}
+use Rattle.feeding.specs.Fed.{keptServer}
 use Rattle.feeding.specs.Input.{Taken, Takes, left, input, output, InputServed, InputHolds}
 use Rattle.feeding.specs.declared.Server.{Server}
 use Rattle.feeding.proofs.Laws.{nothing-fed}

@@ -13,7 +13,7 @@ use borrow.Author.Tests.{le-leb, leb-true}
 use Rattle.rules.specs.Lists.{isEmpty}
 use Rattle.rules.specs.Step.{sessionOf, ending}
 use Rattle.rules.specs.Claims.{Fills}
-use Rattle.rules.proofs.Laws.{byCase, and-true}
+use Rattle.rules.proofs.Laws.{byCase, and-true, nil-is}
 use Rattle.format.specs.Bytes.{newline, lineLimit}
 use Rattle.format.specs.Lines.{said}
 use Rattle.format.specs.Serving.{Serves, performed, serve, lentWords}
@@ -227,7 +227,7 @@ pub asked-none : (x : Said) (p : Plant) (y z c : Call) (b a : Answer) (ws : List
     → (Fills (viewCall z) lentWords (result (viewCall z) lentWords p .words) → result (viewCall z) lentWords p .words ≡ lentWords) → Answers (viewCall z) lentWords p b → Asked x p c a ws
 asked-none x p y z c b a ws ex ez ec ew ea f h = asked x p y z c b a lentWords ws ex ez ec ew ea (fills-none p z z refl lentWords lentWords b refl f h)
 
--- by the one for all that see no field
+-- by the one for all but read and change
 pub asked-plain : (x : Said) (p : Plant) (y c : Call) (b a : Answer) (ws : List ℤ) → x ≡ Says y → c ≡ y → ws ≡ lentWords → a ≡ b → isPlain y ≡ true
     → (isPlain y ≡ true → (lent : List ℤ) → Answers (viewCall y) lent p b) → Asked x p c a ws
 asked-plain x p y c b a ws ex ec ew ea t h = asked x p y y c b a lentWords ws ex refl ec ew ea (plain-answered p y t lentWords b h)
@@ -333,10 +333,6 @@ feed-end s piece lent out t f all some = (
 )
 
 -- ── the end of input ──
-nothing-in : (l : List ℕ) → isEmpty l ≡ true → l ≡ []
-nothing-in [] e = refl
-nothing-in (b ∷ l) e = absurd (true≢false (sym e))
-
 -- a number that is not 0 is 1 or more
 byOne : (n : ℕ) → (n ≡ 0 → _≡_ {A = ℕ} 1 0) → 1 ≤ n
 byOne zero h = absurd (omega (arith, h refl))
@@ -346,7 +342,7 @@ module _ (s : Server) (e : Bool) (ee : e ≡ isEmpty (viewPending (s .pending)))
   pub no-last : e ≡ true → (lent : List ℕ) → (longest ≤ length lent → keptServer s ≡ true → Finished s lent (record { plant = s .plant; pending = s .pending; used = 0; wrote = 0 }))
   no-last t lent r k =
       let o = opened s k in
-      let none : viewPending (s .pending) ≡ [] = nothing-in (viewPending (s .pending)) (sym ee ∙ t) in
+      let none : viewPending (s .pending) ≡ [] = nil-is (viewPending (s .pending)) (sym ee ∙ t) in
       record {
         serves = rw (← ee, t) (refl, refl);
         ends = none;

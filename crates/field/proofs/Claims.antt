@@ -2,28 +2,24 @@
 use mathlib.Core.Path.{_≡_, refl, sym, _∙_, ap}
 use mathlib.Core.Bool.{true, false}
 use mathlib.Core.List.{List, [], _∷_, map-id}
-use Prim.Native.Nat.{ℕ, _≤_}
+use Prim.Native.Nat.{ℕ}
 use lib.IntN.{ℤ, pos, negsuc}
 use lib.ListN.{length, take}
 use mir.Syntax.{w32}
 use mir.Val.{SFits}
 use mir.Facts.{toZ-ofZ}
-use borrow.Author.Tests.{le-leb}
 use Rattle.rules.proofs.KeptTest.{eqZ-is}
-use Rattle.rules.proofs.Laws.{both}
-use Rattle.rules.proofs.Tests.{all-head}
 use Rattle.rules.specs.Limits.{memberLimit}
-use Rattle.rules.specs.Lists.{all}
 use Rattle.rules.specs.Values as S
-use Rattle.rules.specs.Values.{eqZ, fits32, fieldOk, kindOfField, valuesOf}
+use Rattle.rules.specs.Values.{eqZ, fits32, kindOfField, valuesOf}
 use Rattle.rules.specs.Changes.{Kind, change, fieldOf}
 use Rattle.lists.specs.Table.{counted, tableForm}
 use Rattle.lists.proofs.Forms.{form-parts, table-same}
 use Rattle.field.specs.declared.Field.{Field}
 use Rattle.field.specs.declared.Applied.{Applied}
-use Rattle.field.specs.View.{viewField, viewApplied, fieldForm, outcomeNumber, Exact}
+use Rattle.field.specs.View.{viewField, viewApplied, fieldForm, Exact}
 use Rattle.field.proofs.Signed.{held}
-use Rattle.field.proofs.ViewLaws.{members, first-values, few, Form, form-of}
+use Rattle.field.proofs.ViewLaws.{members, first-values, Form, form-of}
 
 -- ── two fields in form that are seen as one value are equal ──
 abbrev made : ℕ → ℕ → List ℤ → Field
@@ -50,25 +46,10 @@ field-unique f g h k e =
     same-parts f g (a .kind ∙ ap kindOfField e ∙ sym (b .kind)) n
     (table-same memberLimit fits32 (eqZ (pos 0)) (λ x. x) (λ x y p q r. r) (λ x y p q. sym (eqZ-is (pos 0) x p) ∙ eqZ-is (pos 0) y q) (pos 0) (f .count) (f .values) (g .values) (a .table) t s)
 
--- ── what is seen of a field in form is a value of the rules ──
-known : (g : S.Field) → length (valuesOf g) ≤ memberLimit → all fits32 (valuesOf g) ≡ true → fieldOk g ≡ true
-known S.absent n h = refl
-known (S.number z) n h = all-head fits32 z [] h
-known (S.list l) n h = both _ _ (le-leb _ _ n) h
-
-pub form-ok : (f : Field) → fieldForm f ≡ true → fieldOk (viewField f) ≡ true
-form-ok f h =
-    let a = form-of h in
-    let l = form-long a in
-    known (viewField f) (few f l) (rw (a .count, first-values f l) at (form-parts memberLimit fits32 (eqZ (pos 0)) (f .count) (f .values) (a .table) .inUse))
-
--- ── what a caller of `changed` has: the field and the number of the rules' outcome ──
+-- ── what a caller of `changed` has: the field of the rules' outcome ──
 module _ (f : Field) (a : Applied) (k : Kind) (v : ℤ) (w : SFits w32 v) (e : viewApplied a ≡ change k (held v) (viewField f)) (x : Exact f a) where
   pub answer-field : viewField (a .field) ≡ fieldOf (change k v (viewField f)) (viewField f)
   answer-field = x .field ∙ rw (e, toZ-ofZ w)
-
-  pub answer-number : a .refusal ≡ outcomeNumber (change k v (viewField f))
-  answer-number = x .number ∙ rw (e, toZ-ofZ w)
 
 -- ── the form computes ──
 two-members : fieldForm (record { kind = 2; count = 2; values = pos 7 ∷ negsuc 0 ∷ pos 0 ∷ pos 0 ∷ pos 0 ∷ pos 0 ∷ [] }) ≡ true

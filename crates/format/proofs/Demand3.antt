@@ -1,6 +1,6 @@
 -- Demand 3 of lines: a line that says a call is a turn of the rules, so the rules' theorem speaks of them all.
 use Prim.Native.Nat.{ℕ}
-use mathlib.Core.Path.{_≡_, refl, sym, _∙_, ap, subst}
+use mathlib.Core.Path.{_≡_, refl, sym, ap, subst}
 use mathlib.Core.List.{List, [], _++_, _∷_}
 use Rattle.rules.specs.Tables.{Plant, setup}
 use Rattle.rules.specs.Calls.{Pick}
@@ -9,7 +9,7 @@ use Rattle.rules.specs.History.{History, Turn, turns, AllAllowed, initial}
 use Rattle.rules.proofs.Demand3.{demand3}
 use Rattle.format.specs.Lines.{Said, says, faulty, said}
 use Rattle.format.specs.Serving.{lentWords, performed, serve, Serves}
-use Rattle.format.specs.Demand3.{LineMakes, Makes, Made, LinesHold}
+use Rattle.format.specs.Demand3.{LineMakes, Makes, LinesHold}
 
 -- the turns that lines make from any plant on
 record Replay (ls : List (List ℕ)) (p : Plant) (out : List ℕ) (q : Plant) : Type 0 where

@@ -3,15 +3,14 @@ use Prim.Native.Nat.{ℕ, suc, zero}
 use mathlib.Core.Path.{_≡_, refl, sym, _∙_, ap, subst}
 use mathlib.Core.Bool.{cond, false, true≢false}
 use mathlib.Core.List.{List, [], _++_, _∷_, append-assoc, append-nil, map}
-use lib.ListN.{length, take}
+use lib.ListN.{take}
 use lib.Dec.{eqb}
 use borrow.Author.Tests.{eqb-true}
 use Rattle.rules.proofs.Laws.{byCase}
-use Rattle.rules.specs.Lists.{isEmpty}
 use Rattle.rules.specs.Tables.{Plant}
 use Rattle.format.specs.Bytes.{newline, lineLimit}
 use Rattle.format.specs.Serving.{linesOf, Serves}
-use Rattle.format.specs.Feeding.{hasEnd, complete, unended, headed, lastLine, Feeds}
+use Rattle.format.specs.Feeding.{hasEnd, complete, unended, lastLine, Feeds}
 use Rattle.format.proofs.Cutting.{complete-none, unended-all, no-end-append, complete-line, unended-line, unended-no-end, complete-append, unended-append, lines-complete}
 use Rattle.format.proofs.Serving.{serves-append, serves-short, serves-cut}
 

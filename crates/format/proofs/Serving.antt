@@ -1,17 +1,12 @@
 -- Lines served one by one, in parts, and by their first bytes alone.
 use Prim.Native.Nat.{ℕ}
 use mathlib.Core.Path.{_∙_, ap, refl, sym}
-use mathlib.Core.List.{List, [], _++_, _∷_, append-assoc, append-nil, map}
+use mathlib.Core.List.{List, [], _++_, _∷_, append-assoc, map}
 use lib.ListN.{take}
 use Rattle.rules.specs.Tables.{Plant}
-use Rattle.rules.specs.Calls.{Pick}
-use Rattle.rules.specs.Step.{Allowed}
 use Rattle.format.specs.Bytes.{lineLimit}
 use Rattle.format.specs.Serving.{Serves, serve}
 use Rattle.format.proofs.Short.{short-serve}
-
-pub serves-one : (l : List ℕ) (pick : Pick) (p : Plant) → Allowed pick p → Serves (l ∷ []) p (serve l pick p .bytes) (serve l pick p .plant)
-serves-one l pick p a = (pick, (a, ([], (sym (append-nil (serve l pick p .bytes)), (refl, refl)))))
 
 pub serves-append : (ls ms : List (List ℕ)) (p q r : Plant) (out out′ : List ℕ) → Serves ls p out q → Serves ms q out′ r → Serves (ls ++ ms) p (out ++ out′) r
 serves-append [] ms p q r out out′ s t = rw (s .0, ← s .1) t

@@ -9,7 +9,7 @@ use lib.IntN.{pos, ℤ}
 use Rattle.rules.specs.Limits.{keyCount, placeLimit, wordsPerField}
 use Rattle.rules.specs.Values.{below, natOf, Place}
 use Rattle.rules.specs.Tables.{Plant}
-use Rattle.rules.specs.Calls.{Call, Load, Map, Begin, Read, Change, Commit, Abandon, Advance, Take, Apply, Delete, Cut, Sweep, Store, Report, Answer, refused, fine, Result, Pick}
+use Rattle.rules.specs.Calls.{Call, Load, Map, Begin, Read, Change, Commit, Abandon, Advance, Take, Apply, Delete, Cut, Sweep, Store, Report, refused, Result, Pick}
 use Rattle.rules.specs.Step.{step, Allowed}
 use Rattle.format.specs.Bytes.{newline}
 use Rattle.format.specs.Lines.{Said, says, faulty, said, answerLine}

@@ -3,13 +3,13 @@ use Prim.Native.Nat.{_-_, ℕ}
 use mathlib.Core.Path.{_≡_, refl}
 use mathlib.Core.List.{List, [], _++_, _∷_}
 use lib.ListN.{length, replicate}
-use lib.IntN.{negsuc, pos, ℤ}
+use lib.IntN.{negsuc, pos}
 use Rattle.rules.specs.Lists.{pushed}
 use Rattle.rules.specs.Refusals.{badLine, outOfRange, _⇒_}
 use Rattle.rules.specs.Values.{fits32}
 use Rattle.rules.specs.Changes.{change, putLast, outcomeRefusal, fieldOf, meets, updated, fieldAfter}
 use Rattle.rules.specs.Tables.{Plant, setup}
-use Rattle.rules.specs.Calls.{Load, Map, Begin, Read, Change, Commit, Abandon, Advance, Take, Apply, Delete, Cut, Sweep, Store, Report, refused, fine, Pick}
+use Rattle.rules.specs.Calls.{Load, Map, Begin, Read, Change, Commit, Abandon, Advance, Take, Apply, Delete, Cut, Sweep, Store, Report, refused, fine}
 use Rattle.rules.specs.Conditions.{conditions}
 use Rattle.rules.specs.Effects.{loaded, mapped, begun, cacheAfter, onlyAt, afterRead, withExclusive, withLast, grant, changed, committed, taken, carried, applied}
 use Rattle.rules.specs.Step.{accepted, step}

@@ -14,7 +14,7 @@ use Rattle.lists.specs.Find.{firstAt}
 use Rattle.lists.proofs.Loops.{drop-next, first-hit, first-miss}
 use Rattle.format.specs.Bytes.{newline}
 use Rattle.format.specs.Feeding.{complete, hasEnd, unended}
-use Rattle.format.proofs.Cutting.{end-complete, end-unended, more-complete, more-unended}
+use Rattle.format.proofs.Cutting.{more-complete, more-unended}
 use Rattle.pending.specs.View.{between, endFrom}
 
 -- ── the loop: what is looked for is still to come ──
@@ -101,12 +101,6 @@ module _ (from : ℕ) (l : List ℕ) where
 
 -- ── u is not ended before the position: the line that ends in the piece, or else all of u and the piece ──
 module _ (u : List ℕ) (free : hasEnd u ≡ false) (from : ℕ) (l : List ℕ) where
-  pub found-complete : endFrom from l < length l → complete (u ++ drop from l) ≡ (u ++ between from (endFrom from l) l) ∷ complete (drop (endFrom from l + 1) l)
-  found-complete h = ap (λ m. complete (u ++ m)) (end-found from l h) ∙ end-complete u (between from (endFrom from l) l) free (end-front from l) (drop (endFrom from l + 1) l)
-
-  pub found-unended : endFrom from l < length l → unended (u ++ drop from l) ≡ unended (drop (endFrom from l + 1) l)
-  found-unended h = ap (λ m. unended (u ++ m)) (end-found from l h) ∙ end-unended u (between from (endFrom from l) l) free (end-front from l) (drop (endFrom from l + 1) l)
-
   pub none-complete : length l ≤ endFrom from l → complete (u ++ drop from l) ≡ []
   none-complete h = more-complete u (drop from l) free (rw (end-none from l h) at (end-front from l))
 

@@ -19,7 +19,7 @@ use Rattle.rules.specs.Effects.{touched}
 use Rattle.rules.specs.Step.{accepted}
 use Rattle.rules.specs.Kept.{sessionOk, batchOk}
 use Rattle.rules.specs.Claims.{KnownAway, StoreAway, SeenFits}
-use Rattle.rules.proofs.Laws.{byCase, not-met, and-true, below-is, run-append, samePlace-is}
+use Rattle.rules.proofs.Laws.{byCase, not-met, and-true, below-is, run-append, samePlace-is, nil-is}
 use Rattle.rules.proofs.Tests.{all-head, all-tail, all-imp, all-join}
 use Rattle.rules.proofs.Accepts.{run-ok, run-set, sets-append}
 use Rattle.rules.proofs.Steps.{step-fine, fine-none}
@@ -199,12 +199,8 @@ own-formed p s k =
     one : (t : Session) → sessionOk (current p) (p .clock) t ≡ true → all updateOk (t .changes) ≡ true
     one t h =
         byCase (t .doomed)
-        (λ d. ap (all updateOk) (no-changes (t .changes) (and-true (eqb (t .begun) 0) (isEmpty (t .changes)) (and-true (eqb (t .begun) 0 && isEmpty (t .changes)) (all (λ d. not (isHeld (t .lease d))) documents) (rw d at h) .0) .1)))
+        (λ d. ap (all updateOk) (nil-is (t .changes) (and-true (eqb (t .begun) 0) (isEmpty (t .changes)) (and-true (eqb (t .begun) 0 && isEmpty (t .changes)) (all (λ d. not (isHeld (t .lease d))) documents) (rw d at h) .0) .1)))
         (λ d. live-parts (current p) (p .clock) t d h .formed)
-      where
-        no-changes : (l : List Update) → isEmpty l ≡ true → l ≡ []
-        no-changes [] e = refl
-        no-changes (c ∷ l) e = absurd (true≢false (sym e))
 
 pub seen-fits : SeenFits
 seen-fits p s q k r =

@@ -17,7 +17,7 @@ use Rattle.rules.specs.Reading.{current, seen}
 use Rattle.rules.specs.Calls.{Pick}
 use Rattle.rules.specs.Effects.{withShared, touched, cacheAfter, onlyAt, afterRead, grant, changed, bufferedAfter, upToDate, committed, lapse, lapsedQueue, advanced}
 use Rattle.rules.specs.Kept.{goodNumber, inTime, sessionOk, isFresh, ownerOk, queueOk}
-use Rattle.rules.proofs.Laws.{byCase, eqb-sym, and-true, both, follow-append, pushed-room}
+use Rattle.rules.proofs.Laws.{byCase, eqb-sym, and-true, both, follow-append, pushed-room, nil-is}
 use Rattle.rules.proofs.Tests.{all-head, all-tail, all-imp}
 use Rattle.rules.proofs.Slots.{has-slot, others-not, none-other}
 use Rattle.rules.proofs.KeptParts.{CacheKept, SlotsKept, BufferKept, Kept}
@@ -75,10 +75,6 @@ kept-change {p} s c a u f o m k =
     }
 
 -- ── commit ──
-pub nil-is : {A : Type 0} (l : List A) → isEmpty l ≡ true → l ≡ []
-nil-is [] e = refl
-nil-is (c ∷ l) e = absurd (true≢false (sym e))
-
 -- after a commit the current stock is what the session saw
 pub commit-current : (p : Plant) (s : ℕ) → not (isEmpty ((session s (p .slots)) .changes)) && leb bufferLimit (length (p .buffer)) ≡ false
     → has s (p .rows) ≡ false → current (committed s p) ≡ seen p ((session s (p .slots)) .changes)

@@ -130,3 +130,7 @@ pushed-room k l a h = rw (lt-ltb (length l) k h)
 pub nil-snoc : {A : Type 0} (l : List A) (a : A) → isEmpty (l ++ (a ∷ [])) ≡ false
 nil-snoc [] a = refl
 nil-snoc (b ∷ l) a = refl
+
+pub nil-is : {A : Type 0} (l : List A) → isEmpty l ≡ true → l ≡ []
+nil-is [] e = refl
+nil-is (a ∷ l) e = absurd (true≢false (sym e))

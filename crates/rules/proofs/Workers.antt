@@ -14,7 +14,7 @@ use Rattle.rules.specs.Changes.{Update, follow}
 use Rattle.rules.specs.Tables.{Batch, numbersOf, isBuffered, oldest, isOldest, batchOf, unbuffer, pending, changesIn, Hand, empty, holds, full, handed, anyHand, Plant, removable}
 use Rattle.rules.specs.Effects.{bufferedAfter}
 use Rattle.rules.specs.History.{changesOf, changesNothing, Committed, whole}
-use Rattle.rules.proofs.Laws.{byCase, follow-append, whole-append, pushed-room}
+use Rattle.rules.proofs.Laws.{byCase, follow-append, whole-append, pushed-room, nil-is}
 use Rattle.rules.proofs.KeptParts.{NoRows, BufferKept}
 use Rattle.rules.proofs.Buffer.{nums-append, pending-append, pending-free, has-last, noRows-snoc, pending-unbuffer, nums-unbuffer, not-swept, has-kept, pending-rows, buffered-nums, not-held}
 use Rattle.rules.proofs.Invariant.{Owed, Owes, none-owed, skips, owes, Workers}
@@ -196,10 +196,6 @@ module _ {start : Stock} {commits : List Committed} {buffered : List ℕ} {noted
       Goal =
           Workers start (commits ++ (x ∷ [])) (cond (changesNothing (x .page)) buffered (buffered ++ (x .number ∷ []))) noted store
           (bufferedAfter (x .number) cs buffer) rows hands
-
-      nil-is : (l : List Update) → isEmpty l ≡ true → l ≡ []
-      nil-is [] e = refl
-      nil-is (c ∷ l) e = cc
 
       unchanged : isEmpty cs ≡ true → Goal
       unchanged t =

@@ -3,14 +3,13 @@ use Prim.Native.Nat.{ℕ, _+_, _-_, _<_}
 use native.Mathlib.Omega.{arith}
 use mathlib.Core.Path.{_≡_, refl, sym, _∙_, ap, fun-ext}
 use mathlib.Core.Bool.{Bool, true, false, cond, true≢false}
-use mathlib.Core.List.{List, [], _∷_}
+use mathlib.Core.List.{List}
 use lib.Dec.{ltb}
 use lib.ListN.{getD}
 use lib.Seq.{ext-getD}
 use borrow.Author.Tests.{eqb-true, ltb-true, ltb-false}
-use Rattle.rules.specs.Lists.{isEmpty}
 use Rattle.rules.specs.Tables as M
-use Rattle.rules.proofs.Laws.{byCase}
+use Rattle.rules.proofs.Laws.{byCase, nil-is}
 use Rattle.docset.specs.Sets.{docs}
 use Rattle.docset.proofs.SetLaws.{docs-decide, docs-past}
 use Rattle.changes.specs.View.{viewChanges}
@@ -112,16 +111,12 @@ session-unique a b f g e = λ i. record { number = e i .number; begun = t i; doo
     cs = changes-unique (a .changes) (b .changes) (session-parts a f .1) (session-parts b g .1) (ap (λ (s : M.Slot). s .session .changes) e)
 
 -- ── slots that are not in use ──
-none-left : {A : Type 0} (l : List A) → isEmpty l ≡ true → l ≡ []
-none-left [] h = refl
-none-left (a ∷ l) h = absurd (true≢false (sym h))
-
 unused-shows : (s : Session) → isUnused s ≡ true → viewSlot s ≡ record { number = 0; session = M.doomedSession }
 unfolding viewSlot viewSession
 unused-shows s e =
     let h = unused-parts s e in
     let b = h .1 in
-    rw (h .0, b .begun, b .doomed, b .shared, b .exclusive, leases-none (ticks 0 (s .granted)), none-left (viewChanges (s .changes)) (b .changes))
+    rw (h .0, b .begun, b .doomed, b .shared, b .exclusive, leases-none (ticks 0 (s .granted)), nil-is (viewChanges (s .changes)) (b .changes))
 
 pub unused-unique : (a b : Session) → isUnused a ≡ true → isUnused b ≡ true → a ≡ b
 unused-unique a b e f = session-unique a b (unused-parts a e .1 .form) (unused-parts b f .1 .form) (unused-shows a e ∙ sym (unused-shows b f))

@@ -1,6 +1,6 @@
 -- `feed` meets its contract. What holds of a line is said once, at the place where its end is found (`Line`) and at the place where its answer
 -- is printed (`Printed`); each way back to the loop's head adds what its call leaves.
-use Prim.Native.Nat.{ℕ, _-_, _<_, _+_, _*_, _≤_}
+use Prim.Native.Nat.{_-_, _<_, _+_, _*_, _≤_}
 use native.Mathlib.Omega.{arith}
 use mathlib.Core.Path.{_≡_, refl, sym, _∙_, ap}
 use mathlib.Core.Logic.{⊎-elim}
