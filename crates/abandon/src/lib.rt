@@ -6,6 +6,7 @@ ghost use lib.IntN.{ℤ};
 ghost use Rattle.rules.specs.Calls.{Abandon};
 ghost use Rattle.plant.specs.View.{plantForm};
 ghost use Rattle.plant.specs.With.{withSessions};
+ghost use Rattle.answers.specs.Own.{isAnswerOf};
 ghost use Rattle.promises.specs.Promise.{Answers, Performs};
 use answers::Answer;
 use answers::Refusal;
@@ -13,7 +14,8 @@ use plant::Plant;
 use sessions::Sessions;
 
 pub fn answer(p: Plant, session: i64) -> Answer
-    ensures { λ r. ⌜ ((lent : List ℤ) → Answers (Abandon session) lent p r) ⌝ }
+    ensures answers { λ r. ⌜ ((lent : List ℤ) → Answers (Abandon session) lent p r) ⌝ }
+    ensures own { λ r. ⌜ isAnswerOf (Abandon session) r ≡ true ⌝ }
 {
     let n = arguments::session(session);
     let sessions = p.sessions;

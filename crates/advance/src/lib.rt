@@ -9,6 +9,7 @@ ghost use Rattle.rules.specs.Limits.{advanceLimit, lastTick};
 ghost use Rattle.rules.specs.Values.{below, natOf};
 ghost use Rattle.rules.specs.Calls.{Advance};
 ghost use Rattle.plant.specs.View.{plantForm};
+ghost use Rattle.answers.specs.Own.{isAnswerOf};
 ghost use Rattle.promises.specs.Promise.{Answers, Performs};
 ghost use Rattle.advance.specs.Left.{left};
 use answers::Answer;
@@ -50,7 +51,8 @@ fn later(clock: u64, n: u64) -> u64
 }
 
 pub fn answer(p: Plant, ticks: i64) -> Answer
-    ensures { λ r. ⌜ ((lent : List ℤ) → Answers (Advance ticks) lent p r) ⌝ }
+    ensures answers { λ r. ⌜ ((lent : List ℤ) → Answers (Advance ticks) lent p r) ⌝ }
+    ensures own { λ r. ⌜ isAnswerOf (Advance ticks) r ≡ true ⌝ }
 {
     let n = ticks_of(ticks);
     if MOST_TICKS < n {

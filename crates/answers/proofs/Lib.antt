@@ -1,2 +1,3 @@
 -- Laws of answers.
 mod Variants
+pub mod Own

@@ -1,2 +1,3 @@
--- Answers as the rules see them.
+-- Answers as the rules see them, and whose they are.
 pub mod View
+pub mod Own

@@ -10,6 +10,7 @@ ghost use Rattle.workers.specs.View.{viewHand};
 ghost use Rattle.rows.specs.View.{viewRows};
 ghost use Rattle.answers.specs.View.{viewAnswer};
 ghost use Rattle.plant.specs.View.{viewPlant, keptPlant, plantForm};
+ghost use Rattle.answers.specs.Own.{isAnswerOf};
 ghost use Rattle.promises.specs.Promise.{Answers, Performs};
 ghost use Rattle.apply.specs.Told.{noRowFor, told};
 ghost use Rattle.apply.specs.Left.{left};
@@ -41,7 +42,8 @@ fn waits(hand: Hand) -> bool
 
 // What is told of a session that is sent to the store.
 fn reply(rows: Rows, n: u32, fate: u8) -> Answer
-    ensures { λ r. ⌜ viewAnswer r ≡ told (viewRows rows) n fate ⌝ }
+    ensures shows { λ r. ⌜ viewAnswer r ≡ told (viewRows rows) n fate ⌝ }
+    ensures own { λ r. ⌜ ((w f : ℤ) → isAnswerOf (Apply w f) r ≡ true) ⌝ }
 {
     if fate != ARRIVES {
         return Answer::Applied(Reply::NoWord);
@@ -56,7 +58,8 @@ fn reply(rows: Rows, n: u32, fate: u8) -> Answer
 }
 
 pub fn answer(p: Plant, worker: i64, fate: i64) -> Answer
-    ensures { λ r. ⌜ ((lent : List ℤ) → Answers (Apply worker fate) lent p r) ⌝ }
+    ensures answers { λ r. ⌜ ((lent : List ℤ) → Answers (Apply worker fate) lent p r) ⌝ }
+    ensures own { λ r. ⌜ isAnswerOf (Apply worker fate) r ≡ true ⌝ }
 {
     let w = arguments::index(worker, Hands::LIMIT as u8);
     if Hands::LIMIT <= w as usize {

@@ -10,6 +10,7 @@ ghost use Rattle.rules.specs.Lists.{any};
 ghost use Rattle.rules.specs.Calls.{Begin};
 ghost use Rattle.sessions.specs.View.{viewSessions};
 ghost use Rattle.plant.specs.View.{plantForm};
+ghost use Rattle.answers.specs.Own.{isAnswerOf};
 ghost use Rattle.promises.specs.Promise.{Answers, Performs};
 ghost use Rattle.begin.specs.Left.{left};
 use answers::Answer;
@@ -31,7 +32,8 @@ fn is_full(t: Sessions) -> bool
 }
 
 pub fn answer(p: Plant) -> Answer
-    ensures { λ r. ⌜ ((lent : List ℤ) → Answers Begin lent p r) ⌝ }
+    ensures answers { λ r. ⌜ ((lent : List ℤ) → Answers Begin lent p r) ⌝ }
+    ensures own { λ r. ⌜ isAnswerOf Begin r ≡ true ⌝ }
 {
     let number = p.next;
     if LAST_SESSION < number {

@@ -14,6 +14,7 @@ ghost use Rattle.cache.specs.View.{viewCache};
 ghost use Rattle.plant.specs.View.{plantForm};
 ghost use Rattle.plant.specs.With.{withSessions};
 ghost use Rattle.answers.specs.View.{viewAnswer};
+ghost use Rattle.answers.specs.Own.{isAnswerOf};
 ghost use Rattle.promises.specs.Promise.{Answers, Performs};
 ghost use Rattle.seeing.specs.Sight.{sight};
 ghost use Rattle.change.specs.Met.{told, laterAnswer};
@@ -43,7 +44,8 @@ fn is_unknown(near: bool, keys: Keys, cache: Cache, buffer: Buffer, own: Changes
 
 // The answer of a change at a field, where the session has count changes with it.
 fn met(f: Field, c: Update, count: u8) -> Answer
-    ensures { λ r. ⌜ viewAnswer r ≡ told (meets (viewUpdate c) (viewField f)) count ⌝ }
+    ensures shows { λ r. ⌜ viewAnswer r ≡ told (meets (viewUpdate c) (viewField f)) count ⌝ }
+    ensures own { λ r. ⌜ ((s d x k v : ℤ) → isAnswerOf (Change s d x k v) r ≡ true) ⌝ }
 {
     let number = requests::met(c, f);
     if number == Applied::DONE {
@@ -66,7 +68,8 @@ fn later(
     own: Changes,
     c: Update,
 ) -> Answer
-    ensures { λ r. ⌜ viewAnswer r ≡ laterAnswer (sight near store keys cache sessions buffer rows) n (viewChanges own) (viewUpdate c) ⌝ }
+    ensures shows { λ r. ⌜ viewAnswer r ≡ laterAnswer (sight near store keys cache sessions buffer rows) n (viewChanges own) (viewUpdate c) ⌝ }
+    ensures own { λ r. ⌜ ((s d x k v : ℤ) → isAnswerOf (Change s d x k v) r ≡ true) ⌝ }
 {
     let count = own.len();
     if Changes::LIMIT <= count as usize {
@@ -83,7 +86,8 @@ fn later(
 }
 
 pub fn answer(p: Plant, session: i64, document: i64, field: i64, kind: i64, value: i64) -> Answer
-    ensures { λ r. ⌜ ((lent : List ℤ) → Answers (Change session document field kind value) lent p r) ⌝ }
+    ensures answers { λ r. ⌜ ((lent : List ℤ) → Answers (Change session document field kind value) lent p r) ⌝ }
+    ensures own { λ r. ⌜ isAnswerOf (Change session document field kind value) r ≡ true ⌝ }
 {
     let keys = p.keys;
     let cache = p.cache;

@@ -10,6 +10,7 @@ ghost use Rattle.changes.specs.Form.{changesForm};
 ghost use Rattle.buffer.specs.View.{viewBuffer};
 ghost use Rattle.buffer.specs.Form.{bufferForm};
 ghost use Rattle.plant.specs.View.{plantForm};
+ghost use Rattle.answers.specs.Own.{isAnswerOf};
 ghost use Rattle.promises.specs.Promise.{Answers, Performs};
 ghost use Rattle.commit.specs.Left.{left};
 use answers::Answer;
@@ -34,7 +35,8 @@ fn buffered(b: Buffer, number: u32, changes: Changes) -> Buffer
 }
 
 pub fn answer(p: Plant, session: i64) -> Answer
-    ensures { λ r. ⌜ ((lent : List ℤ) → Answers (Commit session) lent p r) ⌝ }
+    ensures answers { λ r. ⌜ ((lent : List ℤ) → Answers (Commit session) lent p r) ⌝ }
+    ensures own { λ r. ⌜ isAnswerOf (Commit session) r ≡ true ⌝ }
 {
     let n = arguments::session(session);
     let sessions = p.sessions;

@@ -6,6 +6,7 @@ ghost use lib.IntN.{ℤ};
 ghost use Rattle.rules.specs.Calls.{Load};
 ghost use Rattle.plant.specs.View.{plantForm};
 ghost use Rattle.plant.specs.With.{withStore};
+ghost use Rattle.answers.specs.Own.{isAnswerOf};
 ghost use Rattle.promises.specs.Promise.{Answers, Performs};
 use answers::Answer;
 use answers::Refusal;
@@ -14,7 +15,8 @@ use plant::Plant;
 use store::Store;
 
 pub fn answer(p: Plant, document: i64, field: i64, kind: i64, value: i64) -> Answer
-    ensures { λ r. ⌜ ((lent : List ℤ) → Answers (Load document field kind value) lent p r) ⌝ }
+    ensures answers { λ r. ⌜ ((lent : List ℤ) → Answers (Load document field kind value) lent p r) ⌝ }
+    ensures own { λ r. ⌜ isAnswerOf (Load document field kind value) r ≡ true ⌝ }
 {
     let c = requests::update(document, field, kind, value);
     if c.kind == 0 {

@@ -6,6 +6,7 @@ ghost use lib.IntN.{ℤ};
 ghost use Rattle.rules.specs.Calls.{Map};
 ghost use Rattle.plant.specs.View.{plantForm};
 ghost use Rattle.plant.specs.With.{withKeys};
+ghost use Rattle.answers.specs.Own.{isAnswerOf};
 ghost use Rattle.promises.specs.Promise.{Answers, Performs};
 ghost use Rattle.places.specs.View.{pairs};
 use answers::Answer;
@@ -28,7 +29,8 @@ pub fn answer(
     d4: i64,
     f4: i64,
 ) -> Answer
-    ensures { λ r. ⌜ ((lent : List ℤ) → Answers (Map key count (pairs d1 f1 d2 f2 d3 f3 d4 f4)) lent p r) ⌝ }
+    ensures answers { λ r. ⌜ ((lent : List ℤ) → Answers (Map key count (pairs d1 f1 d2 f2 d3 f3 d4 f4)) lent p r) ⌝ }
+    ensures own { λ r. ⌜ isAnswerOf (Map key count (pairs d1 f1 d2 f2 d3 f3 d4 f4)) r ≡ true ⌝ }
 {
     let k = arguments::index(key, Keys::LIMIT as u8);
     if Keys::LIMIT <= k as usize {

@@ -6,6 +6,7 @@ ghost use lib.IntN.{ℤ};
 ghost use Rattle.rules.specs.Calls.{Store};
 ghost use Rattle.plant.specs.View.{plantForm};
 ghost use Rattle.plant.specs.With.{withNear};
+ghost use Rattle.answers.specs.Own.{isAnswerOf};
 ghost use Rattle.promises.specs.Promise.{Answers, Performs};
 use answers::Answer;
 use answers::Refusal;
@@ -14,7 +15,8 @@ use plant::Plant;
 const NEAR: u8 = 1;
 
 pub fn answer(p: Plant, mark: i64) -> Answer
-    ensures { λ r. ⌜ ((lent : List ℤ) → Answers (Store mark) lent p r) ⌝ }
+    ensures answers { λ r. ⌜ ((lent : List ℤ) → Answers (Store mark) lent p r) ⌝ }
+    ensures own { λ r. ⌜ isAnswerOf (Store mark) r ≡ true ⌝ }
 {
     if NEAR < arguments::index(mark, NEAR + 1) {
         return Answer::Refused(Refusal::OutOfRange);

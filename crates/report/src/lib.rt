@@ -1,14 +1,18 @@
 // Report: how many documents the session holds shared and how many exclusively, and how many changes it has.
+ghost use mathlib.Core.Path.{_≡_};
+ghost use mathlib.Core.Bool.{true};
 ghost use mathlib.Core.List.{List};
 ghost use lib.IntN.{ℤ};
 ghost use Rattle.rules.specs.Calls.{Report};
+ghost use Rattle.answers.specs.Own.{isAnswerOf};
 ghost use Rattle.promises.specs.Promise.{Answers};
 use answers::Answer;
 use answers::Refusal;
 use plant::Plant;
 
 pub fn answer(p: Plant, session: i64) -> Answer
-    ensures { λ r. ⌜ ((lent : List ℤ) → Answers (Report session) lent p r) ⌝ }
+    ensures answers { λ r. ⌜ ((lent : List ℤ) → Answers (Report session) lent p r) ⌝ }
+    ensures own { λ r. ⌜ isAnswerOf (Report session) r ≡ true ⌝ }
 {
     let n = arguments::session(session);
     let sessions = p.sessions;

@@ -10,6 +10,7 @@ ghost use Rattle.rules.specs.Calls.{Sweep};
 ghost use Rattle.rows.specs.View.{viewRows, viewPicks};
 ghost use Rattle.plant.specs.View.{plantForm};
 ghost use Rattle.plant.specs.With.{withRows};
+ghost use Rattle.answers.specs.Own.{isAnswerOf};
 ghost use Rattle.promises.specs.Promise.{Answers, Performs};
 ghost use Rattle.buffer.specs.View.{viewBuffer};
 ghost use Rattle.workers.specs.View.{viewHands};
@@ -61,7 +62,8 @@ fn pick(rows: Rows, buffer: Buffer, hands: Hands) -> Picks
 }
 
 pub fn answer(p: Plant) -> Answer
-    ensures { λ r. ⌜ ((lent : List ℤ) → Answers Sweep lent p r) ⌝ }
+    ensures answers { λ r. ⌜ ((lent : List ℤ) → Answers Sweep lent p r) ⌝ }
+    ensures own { λ r. ⌜ isAnswerOf Sweep r ≡ true ⌝ }
 {
     if !p.near {
         return Answer::Refused(Refusal::StoreAway);

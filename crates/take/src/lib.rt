@@ -5,6 +5,7 @@ ghost use mathlib.Core.List.{List};
 ghost use lib.IntN.{ℤ};
 ghost use Rattle.rules.specs.Calls.{Take};
 ghost use Rattle.plant.specs.View.{plantForm};
+ghost use Rattle.answers.specs.Own.{isAnswerOf};
 ghost use Rattle.promises.specs.Promise.{Answers, Performs};
 ghost use Rattle.take.specs.Left.{left};
 use answers::Answer;
@@ -15,7 +16,8 @@ use workers::Hands;
 use workers::Queue;
 
 pub fn answer(p: Plant, worker: i64) -> Answer
-    ensures { λ r. ⌜ ((lent : List ℤ) → Answers (Take worker) lent p r) ⌝ }
+    ensures answers { λ r. ⌜ ((lent : List ℤ) → Answers (Take worker) lent p r) ⌝ }
+    ensures own { λ r. ⌜ isAnswerOf (Take worker) r ≡ true ⌝ }
 {
     let w = arguments::index(worker, Hands::LIMIT as u8);
     if Hands::LIMIT <= w as usize {

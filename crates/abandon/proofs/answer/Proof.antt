@@ -1,6 +1,7 @@
 -- `answer` meets its contract.
 use Rattle.abandon.proofs.Laws.{asks, abandons}
 use Rattle.ending.proofs.Standing.{no-slot, was-doomed, stands}
+use mathlib.Core.Path.{refl}
 use borrow.Author.Needs.{needs}
 use Rattle.abandon.proofs.answer.Statement.{statement}
 use Rattle.abandon.proofs.answer.Tie as tie
@@ -12,7 +13,7 @@ has-requires : tie.Need-has-requires
 has-requires c κs = search needs
 
 returns : tie.Need-returns
-returns c = search (no-slot asks, needs)
+returns c = search (no-slot asks, refl, needs)
 
 session-requires-2 : tie.Need-session-requires-2
 session-requires-2 c κs = search needs
@@ -21,10 +22,10 @@ is-doomed-requires : tie.Need-is-doomed-requires
 is-doomed-requires c κs = search needs
 
 returns-2 : tie.Need-returns-2
-returns-2 c = search (was-doomed asks, needs)
+returns-2 c = search (was-doomed asks, refl, needs)
 
 returns-3 : tie.Need-returns-3
-returns-3 c = search (abandons, stands asks, needs)
+returns-3 c = search (abandons, stands asks, refl, needs)
 
 pub answer-spec : {M : Type 1} → statement M
 answer-spec =

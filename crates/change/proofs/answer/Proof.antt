@@ -1,5 +1,6 @@
 -- `answer` meets its contract.
 use Rattle.change.proofs.Laws.{out-of-range, no-slot, was-doomed, meeting}
+use mathlib.Core.Path.{refl}
 use borrow.Author.Needs.{needs}
 use Rattle.change.proofs.answer.Statement.{statement}
 use Rattle.change.proofs.answer.Tie as tie
@@ -8,7 +9,7 @@ update-requires : tie.Need-update-requires
 update-requires c κs = search needs
 
 returns : tie.Need-returns
-returns c = search (out-of-range, needs)
+returns c = search (out-of-range, refl, needs)
 
 session-requires : tie.Need-session-requires
 session-requires c κs = search needs
@@ -17,7 +18,7 @@ has-requires : tie.Need-has-requires
 has-requires c κs = search needs
 
 returns-2 : tie.Need-returns-2
-returns-2 c = search (no-slot, needs)
+returns-2 c = search (no-slot, refl, needs)
 
 session-requires-2 : tie.Need-session-requires-2
 session-requires-2 c κs = search needs
@@ -26,13 +27,13 @@ is-doomed-requires : tie.Need-is-doomed-requires
 is-doomed-requires c κs = search needs
 
 returns-3 : tie.Need-returns-3
-returns-3 c = search (was-doomed, needs)
+returns-3 c = search (was-doomed, refl, needs)
 
 later-requires : tie.Need-later-requires
 later-requires c κs = search needs
 
 returns-4 : tie.Need-returns-4
-returns-4 c = search (meeting, needs)
+returns-4 c = (search (meeting, needs), c .later .ensures .1 _ _ _ _ _)
 
 pub answer-spec : {M : Type 1} → statement M
 answer-spec =

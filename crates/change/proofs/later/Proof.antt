@@ -1,5 +1,6 @@
 -- `later` meets its contract.
 use Rattle.change.proofs.Laws.{is-full, is-elsewhere, is-away, is-met}
+use mathlib.Core.Path.{refl}
 use borrow.Author.Needs.{needs}
 use Rattle.change.proofs.later.Statement.{statement}
 use Rattle.change.proofs.later.Tie as tie
@@ -11,19 +12,19 @@ cast-if1 : tie.Need-cast-if1
 cast-if1 c = search needs
 
 returns : tie.Need-returns
-returns c = search (is-full, needs)
+returns c = (search (is-full, needs), λ s d x k v. refl)
 
 others-exclusive-requires : tie.Need-others-exclusive-requires
 others-exclusive-requires c κs = search needs
 
 returns-2 : tie.Need-returns-2
-returns-2 c = search (is-elsewhere, needs)
+returns-2 c = (search (is-elsewhere, needs), λ s d x k v. refl)
 
 is-unknown-requires : tie.Need-is-unknown-requires
 is-unknown-requires c κs = search needs
 
 returns-3 : tie.Need-returns-3
-returns-3 c = search (is-away, needs)
+returns-3 c = (search (is-away, needs), λ s d x k v. refl)
 
 field-requires : tie.Need-field-requires
 field-requires c κs = search needs
@@ -35,7 +36,7 @@ met-requires : tie.Need-met-requires
 met-requires c κs = search needs
 
 returns-4 : tie.Need-returns-4
-returns-4 c = search (is-met, needs)
+returns-4 c = (search (is-met, needs), c .met .ensures .1)
 
 pub later-spec : {M : Type 1} → statement M
 later-spec =

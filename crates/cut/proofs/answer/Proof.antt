@@ -1,5 +1,6 @@
 -- `answer` meets its contract.
 use Rattle.cut.proofs.Laws.{out-of-range, told}
+use mathlib.Core.Path.{refl}
 use borrow.Author.Needs.{needs}
 use Rattle.cut.proofs.answer.Statement.{statement}
 use Rattle.cut.proofs.answer.Tie as tie
@@ -14,10 +15,10 @@ cast-if1 : tie.Need-cast-if1
 cast-if1 c = search needs
 
 returns : tie.Need-returns
-returns c = search (out-of-range, needs)
+returns c = search (out-of-range, refl, needs)
 
 returns-2 : tie.Need-returns-2
-returns-2 c = search (told, needs)
+returns-2 c = search (told, refl, needs)
 
 pub answer-spec : {M : Type 1} → statement M
 answer-spec = tie.close (tie.spec cast-index index-requires cast-if1 returns returns-2)

@@ -1,5 +1,6 @@
 -- `answer` meets its contract.
 use Rattle.delete.proofs.Laws.{out-of-range, no-reply, buffered-told}
+use mathlib.Core.Path.{refl}
 use borrow.Author.Needs.{needs}
 use Rattle.delete.proofs.answer.Statement.{statement}
 use Rattle.delete.proofs.answer.Tie as tie
@@ -14,7 +15,7 @@ cast-if1 : tie.Need-cast-if1
 cast-if1 c = search needs
 
 returns : tie.Need-returns
-returns c = search (out-of-range, needs)
+returns c = search (out-of-range, refl, needs)
 
 hand-requires : tie.Need-hand-requires
 hand-requires c κs = search needs
@@ -23,7 +24,7 @@ is-replied-requires : tie.Need-is-replied-requires
 is-replied-requires c κs = search needs
 
 returns-2 : tie.Need-returns-2
-returns-2 c = search (no-reply, needs)
+returns-2 c = search (no-reply, refl, needs)
 
 handed-requires : tie.Need-handed-requires
 handed-requires c κs = search needs
@@ -32,7 +33,7 @@ has-requires : tie.Need-has-requires
 has-requires c κs = search needs
 
 returns-3 : tie.Need-returns-3
-returns-3 c = search (buffered-told, needs)
+returns-3 c = search (buffered-told, refl, needs)
 
 pub answer-spec : {M : Type 1} → statement M
 answer-spec =

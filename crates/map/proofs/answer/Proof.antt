@@ -1,5 +1,6 @@
 -- `answer` meets its contract.
 use Rattle.map.proofs.Laws.{no-key, no-place, begun, defined, bad, done}
+use mathlib.Core.Path.{refl}
 use borrow.Author.Needs.{needs}
 use Rattle.map.proofs.answer.Statement.{statement}
 use Rattle.map.proofs.answer.Tie as tie
@@ -14,7 +15,7 @@ cast-if1 : tie.Need-cast-if1
 cast-if1 c = search needs
 
 returns : tie.Need-returns
-returns c = search (no-key, needs)
+returns c = search (no-key, refl, needs)
 
 of-requires : tie.Need-of-requires
 of-requires c κs = search needs
@@ -23,10 +24,10 @@ are-within-requires : tie.Need-are-within-requires
 are-within-requires c κs = search needs
 
 returns-2 : tie.Need-returns-2
-returns-2 c = search (no-place, needs)
+returns-2 c = search (no-place, refl, needs)
 
 returns-3 : tie.Need-returns-3
-returns-3 c = search (begun, needs)
+returns-3 c = search (begun, refl, needs)
 
 key-requires : tie.Need-key-requires
 key-requires c κs = search needs
@@ -35,7 +36,7 @@ is-empty-requires : tie.Need-is-empty-requires
 is-empty-requires c κs = search needs
 
 returns-4 : tie.Need-returns-4
-returns-4 c = search (defined, needs)
+returns-4 c = search (defined, refl, needs)
 
 cast-index-2 : tie.Need-cast-index-2
 cast-index-2 c = search needs
@@ -53,10 +54,10 @@ is-empty-requires-2 : tie.Need-is-empty-requires-2
 is-empty-requires-2 c κs = search needs
 
 returns-5 : tie.Need-returns-5
-returns-5 c = search (bad, needs)
+returns-5 c = search (bad, refl, needs)
 
 returns-6 : tie.Need-returns-6
-returns-6 c = search (done, needs)
+returns-6 c = search (done, refl, needs)
 
 pub answer-spec : {M : Type 1} → statement M
 answer-spec =

@@ -1,5 +1,6 @@
 -- `answer` meets its contract.
 use Rattle.nearness.proofs.Laws.{out-of-range, done}
+use mathlib.Core.Path.{refl}
 use borrow.Author.Needs.{needs}
 use Rattle.nearness.proofs.answer.Statement.{statement}
 use Rattle.nearness.proofs.answer.Tie as tie
@@ -11,10 +12,10 @@ index-requires : tie.Need-index-requires
 index-requires c κs = search needs
 
 returns : tie.Need-returns
-returns c = search (out-of-range, needs)
+returns c = search (out-of-range, refl, needs)
 
 returns-2 : tie.Need-returns-2
-returns-2 c = search (done, needs)
+returns-2 c = search (done, refl, needs)
 
 pub answer-spec : {M : Type 1} → statement M
 answer-spec = tie.close (tie.spec add-index index-requires returns returns-2)

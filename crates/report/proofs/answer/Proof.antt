@@ -1,6 +1,7 @@
 -- `answer` meets its contract.
 use Rattle.report.proofs.Laws.{asks, reports}
 use Rattle.ending.proofs.Standing.{its-session, no-slot, was-doomed, stands}
+use mathlib.Core.Path.{refl}
 use borrow.Author.Needs.{needs}
 use Rattle.report.proofs.answer.Statement.{statement}
 use Rattle.report.proofs.answer.Tie as tie
@@ -12,7 +13,7 @@ has-requires : tie.Need-has-requires
 has-requires c κs = search needs
 
 returns : tie.Need-returns
-returns c = search (no-slot asks, needs)
+returns c = search (no-slot asks, refl, needs)
 
 session-requires-2 : tie.Need-session-requires-2
 session-requires-2 c κs = search needs
@@ -21,7 +22,7 @@ is-doomed-requires : tie.Need-is-doomed-requires
 is-doomed-requires c κs = search needs
 
 returns-2 : tie.Need-returns-2
-returns-2 c = search (was-doomed asks, needs)
+returns-2 c = search (was-doomed asks, refl, needs)
 
 shared-count-requires : tie.Need-shared-count-requires
 shared-count-requires c κs = search needs
@@ -33,7 +34,7 @@ len-requires : tie.Need-len-requires
 len-requires c κs = search needs
 
 returns-3 : tie.Need-returns-3
-returns-3 c = search (reports, stands asks, its-session, needs)
+returns-3 c = search (reports, stands asks, its-session, refl, needs)
 
 pub answer-spec : {M : Type 1} → statement M
 answer-spec =
