@@ -14,6 +14,7 @@ use Rattle.calls.specs.declared.Call.the-variants.{Load, Map, Begin, Read, Chan
 use Rattle.calls.proofs.Call.{the-type}
 use Rattle.plant.specs.View.{viewPlant, keptPlant}
 use Rattle.plant.specs.declared.Plant.{Plant}
+use Rattle.answers.specs.Own.{isAnswerOf}
 use Rattle.answers.specs.declared.Answer.{Answer}
 use Rattle.promises.specs.Promise.{chosen, result, Answers}
 use Rattle.dispatch.specs.Plain.{isPlain}
@@ -59,15 +60,19 @@ not-seeing Sweep h = refl
 not-seeing (Store n) h = refl
 not-seeing (Report s) h = refl
 
+-- ── an answer is the call's own ──
+pub own : (x y : Call) → x ≡ y → (a : Answer) → isAnswerOf (viewCall y) a ≡ true → isAnswerOf (viewCall x) a ≡ true
+own x y e a h = subst (λ c. isAnswerOf (viewCall c) a ≡ true) (sym e) h
+
 -- ── what a plain call answers ──
 abbrev Plainly : Plant → Answer → Call → Type 0
 Plainly p a c = isPlain c ≡ true → (lent : List ℤ) → Answers (viewCall c) lent p a
 
-pub plainly : (p : Plant) (x y : Call) → x ≡ y → (a : Answer) → ((lent : List ℤ) → Answers (viewCall y) lent p a) → Plainly p a x
-plainly p x y e a h = subst (Plainly p a) (sym e) (λ t. h)
+pub plainly : (p : Plant) (x y : Call) → x ≡ y → (a : Answer) → ((lent : List ℤ) → Answers (viewCall y) lent p a) × (isAnswerOf (viewCall y) a ≡ true) → Plainly p a x × (isPlain x ≡ true → isAnswerOf (viewCall x) a ≡ true)
+plainly p x y e a h = (subst (Plainly p a) (sym e) (λ t. h .0), λ t. own x y e a (h .1))
 
-pub not-plain : (p : Plant) (c : Call) (a : Answer) → OneOf seeing (tagOf the-type c) → Plainly p a c
-not-plain p c a h t = absurd (sees c h t)
+pub not-plain : (p : Plant) (c : Call) (a : Answer) → OneOf seeing (tagOf the-type c) → Plainly p a c × (isPlain c ≡ true → isAnswerOf (viewCall c) a ≡ true)
+not-plain p c a h = (λ t. absurd (sees c h t), λ t. absurd (sees c h t))
 
 -- ── what any call answers, and its words ──
 abbrev pub Answered : Plant → List ℤ → List ℤ → Answer → Call → Type 0

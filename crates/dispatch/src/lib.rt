@@ -5,6 +5,7 @@ ghost use mathlib.Core.List.{List};
 ghost use lib.IntN.{ℤ};
 ghost use Rattle.calls.specs.View.{viewCall};
 ghost use Rattle.plant.specs.View.{keptPlant};
+ghost use Rattle.answers.specs.Own.{isAnswerOf};
 ghost use Rattle.promises.specs.Promise.{result, Answers};
 ghost use Rattle.dispatch.specs.Plain.{isPlain};
 use answers::Answer;
@@ -14,7 +15,8 @@ use plant::Plant;
 // The answer of a call that does not ask what a session sees. None of these hands a table on, so the plant is not copied on its way through here. Read and
 // change do, so a loop that owns the plant asks them directly.
 pub fn plain(p: Plant, c: Call) -> Answer
-    ensures { λ r. ⌜ (isPlain c ≡ true → (lent : List ℤ) → Answers (viewCall c) lent p r) ⌝ }
+    ensures answers { λ r. ⌜ (isPlain c ≡ true → (lent : List ℤ) → Answers (viewCall c) lent p r) ⌝ }
+    ensures own { λ r. ⌜ (isPlain c ≡ true → isAnswerOf (viewCall c) r ≡ true) ⌝ }
 {
     match c {
         Call::Load(d, f, k, v) => load::answer(p, d, f, k, v),
@@ -49,9 +51,13 @@ pub fn plain(p: Plant, c: Call) -> Answer
 pub fn answer(p: Plant, c: Call, words: &mut [i32]) -> Answer
     ensures answers { λ r. ⌜ Answers (viewCall c) (now (words .entry)) p r ⌝ }
     ensures fills { λ r. ⌜ (keptPlant p ≡ true → now (words .exit) ≡ result (viewCall c) (now (words .entry)) p .words) ⌝ }
+    ensures own { λ r. ⌜ isAnswerOf (viewCall c) r ≡ true ⌝ }
 {
     match c {
-        Call::Read(s, k) => read::answer(p, s, k, words),
+        Call::Read(s, k) => {
+            let seen = read::ask(p, s, k, words);
+            seen.answer
+        }
         Call::Change(s, d, f, k, v) => change::answer(p, s, d, f, k, v),
         _ => plain(p, c),
     }

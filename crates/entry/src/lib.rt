@@ -1,7 +1,9 @@
 // The one entry: any call, on the plant, with words lent to it.
 ghost use mathlib.Core.Path.{_≡_};
 ghost use mathlib.Core.Bool.{true};
-ghost use Rattle.plant.specs.View.{keptPlant};
+ghost use Rattle.plant.specs.View.{plantForm, keptPlant};
+ghost use Rattle.answers.specs.Own.{isAnswerOf};
+ghost use Rattle.calls.specs.View.{viewCall};
 ghost use Rattle.entry.specs.Ran.{Ran};
 use answers::Answer;
 use calls::Call;
@@ -13,7 +15,9 @@ pub struct Outcome {
 }
 
 pub fn run(p: Plant, c: Call, words: &mut [i32]) -> Outcome
-    ensures { λ r. ⌜ (keptPlant p ≡ true → Ran c (now (words .entry)) p (r .answer) (now (words .exit)) (r .plant)) ⌝ }
+    ensures runs { λ r. ⌜ (keptPlant p ≡ true → Ran c (now (words .entry)) p (r .answer) (now (words .exit)) (r .plant)) ⌝ }
+    ensures own { λ r. ⌜ isAnswerOf (viewCall c) (r .answer) ≡ true ⌝ }
+    ensures form { λ r. ⌜ (plantForm p ≡ true → plantForm (r .plant) ≡ true) ⌝ }
 {
     let answer = dispatch::answer(p, c, words);
     let plant = leaving::after(p, c, answer);

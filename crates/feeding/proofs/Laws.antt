@@ -4,15 +4,15 @@ use native.Mathlib.Omega.{arith}
 use mathlib.Core.Path.{_≡_, refl, sym, _∙_, ap, subst}
 use mathlib.Core.Bool.{Bool, true, false, not, _&&_, true≢false}
 use mathlib.Core.List.{List, [], _++_, _∷_, append-assoc, append-nil}
-use lib.IntN.{ℤ}
-use lib.ListN.{length, take, drop, length-drop, length-take}
+use lib.IntN.{ℤ, pos}
+use lib.ListN.{length, take, drop, length-drop, length-take, drop-of-length-le}
 use lib.Dec.{leb}
-use lib.Seq.{length-take-le, take-all, take-at, drop-at, take-append-add}
+use lib.Seq.{length-take-le, take-all, take-at, drop-at, drop-drop, take-append-add}
 use borrow.Rule.Slice.PartMut.{putMid, postOf, take-put}
 use borrow.Author.Tests.{le-leb, leb-true}
 use Rattle.rules.specs.Lists.{isEmpty}
 use Rattle.rules.specs.Step.{sessionOf, ending}
-use Rattle.rules.specs.Claims.{Fills}
+use Rattle.rules.specs.Calls.{callNumber}
 use Rattle.rules.proofs.Laws.{byCase, and-true, nil-is}
 use Rattle.format.specs.Bytes.{newline, lineLimit}
 use Rattle.format.specs.Lines.{said}
@@ -33,18 +33,23 @@ use Rattle.lines.specs.declared.Said.{Said}
 use Rattle.lines.specs.declared.Said.the-variants.{Says}
 use Rattle.calls.specs.View.{viewCall}
 use Rattle.calls.specs.declared.Call.{Call}
+use Rattle.calls.specs.declared.Call.the-variants.{Load, Map, Begin, Read, Change, Commit, Abandon, Advance, Take, Apply, Delete, Cut, Sweep, Store, Report}
 use Rattle.answers.specs.View.{viewAnswer, isRefused, isEnding}
 use Rattle.promises.specs.Promise.{result, Answers, Performs, Leaves, Keeps}
 use Rattle.promises.proofs.Chosen.{and-keeps}
 use Rattle.promises.proofs.Chosen as chosen
 use Rattle.promises.proofs.Leaving.{stays, ends}
+use Rattle.cached.specs.Form.{cachedForm}
+use Rattle.marking.specs.declared.Marked.{Marked}
+use Rattle.read.specs.Shows.{Shows}
+use Rattle.read.specs.declared.Seen.{Seen}
 use Rattle.dispatch.specs.Plain.{isPlain}
 use Rattle.dispatch.proofs.Laws.{fills-none, plain-answered}
 use Rattle.dispatch.proofs.Laws as dispatch
 use Rattle.leaving.proofs.Laws.{left}
 use Rattle.serving.specs.Answered.{Answered, Tells}
 use Rattle.serving.proofs.Laws.{Done, done}
-use Rattle.feeding.specs.Fed.{keptServer, Within, Ready, Next, Fed, Finished}
+use Rattle.feeding.specs.Fed.{keptServer, Within, Past, Ready, Next, Fed, Finished}
 use Rattle.feeding.specs.declared.Server.{Server}
 
 pub kept-start : (p : Plant) (t : Pending) (n m : ℕ) → keptPlant p ≡ true → viewPending t ≡ [] → keptServer (record { plant = p; pending = t; used = n; wrote = m }) ≡ true
@@ -132,6 +137,7 @@ module _ (s : Server) (piece lent : List ℕ) (end : ℕ) (ee : end ≡ endFrom 
               record {
                 feeds = subst (λ o. Feeds u (viewPlant (s .plant)) rest o (viewPending kept) (viewPlant (s .plant))) (sym (nothing-between (s .wrote) lent)) f;
                 before = refl;
+                past = refl;
                 upwards = (after-used, omega arith);
                 keeps = closed unanswered (record { plant = o .plant; free = feeds-free u rest [] (viewPending kept) (viewPlant (s .plant)) (viewPlant (s .plant)) f; short = rw ek (short-take (u ++ rest)) });
               },
@@ -151,6 +157,9 @@ module _ (s : Server) (piece lent : List ℕ) (end : ℕ) (ee : end ≡ endFrom 
 
     room-is : room ≡ drop (s .wrote) lent
     room-is = let l : length (drop (s .wrote) lent) ≤ length lent - s .wrote = simp length-drop (omega arith) in take-all (length lent - s .wrote) (drop (s .wrote) lent) l
+
+    none-past : postOf (s .wrote) (length lent - s .wrote) lent ≡ []
+    none-past = drop-of-length-le (drop (s .wrote) lent) {i = length lent - s .wrote} (simp length-drop (omega arith))
 
     room-long : longest ≤ length room
     room-long = let r = ready .1 in rw room-is (simp length-drop (omega arith))
@@ -185,11 +194,11 @@ module _ (s : Server) (piece lent : List ℕ) (end : ℕ) (ee : end ≡ endFrom 
               let front : hasEnd rest ≡ false = rw ee (end-front (s .used) piece) in
               let at : take (s .wrote) out ≡ take (s .wrote) lent = take-put (s .wrote) (length lent - s .wrote) lent part (omega (arith, r .1)) in
               let post = postOf (s .wrote) (length lent - s .wrote) lent in
-              let past : drop (s .wrote) out ≡ bs ++ (drop len room ++ post) =
+              let tail : drop (s .wrote) out ≡ bs ++ (drop len room ++ post) =
               drop-at (take (s .wrote) lent) (part ++ post) (s .wrote) (length-take-le (s .wrote) lent (omega (arith, r .1)))
               ∙ ap (λ o. o ++ post) (x .prints) ∙ append-assoc bs (drop len room) post in
               let n : s .wrote + len - s .wrote ≡ len = omega arith in
-              let filled : between (s .wrote) (s .wrote + len) out ≡ bs = ap (λ m. take m (drop (s .wrote) out)) n ∙ ap (take len) past ∙ take-at bs (drop len room ++ post) len (sym (x .counts)) in
+              let filled : between (s .wrote) (s .wrote + len) out ≡ bs = ap (λ m. take m (drop (s .wrote) out)) n ∙ ap (take len) tail ∙ take-at bs (drop len room ++ post) len (sym (x .counts)) in
               let f : Feeds u (viewPlant (s .plant)) (rest ++ (newline ∷ [])) bs [] (viewPlant q) =
               record {
                 serves = subst (λ ls. Serves ls (viewPlant (s .plant)) bs (viewPlant q)) (sym (end-complete u rest b front [])) (x .pick, (x .allowed, ([], (sym (append-nil bs), (refl, x .leaves)))));
@@ -198,6 +207,7 @@ module _ (s : Server) (piece lent : List ℕ) (end : ℕ) (ee : end ≡ endFrom 
               record {
                 feeds = rw (ended-line, filled, ek) f;
                 before = at;
+                past = sym (drop-drop len (s .wrote) out) ∙ ap (drop len) tail ∙ drop-at bs (drop len room ++ post) len (sym (x .counts)) ∙ ap (λ o. drop len room ++ o) none-past ∙ append-nil (drop len room) ∙ ap (drop len) room-is ∙ drop-drop len (s .wrote) lent;
                 upwards = (omega (arith, a), omega arith);
                 keeps = closed answered (record { plant = x .keeps; free = rw ek refl; short = rw ek (omega arith) });
               },
@@ -210,27 +220,62 @@ module _ (s : Server) (piece lent : List ℕ) (end : ℕ) (ee : end ≡ endFrom 
     line-fed x es a t l d = one-line (λ r k. subst (λ z. Answered z (s .plant) room part len q) es (done x (s .plant) q room part len a d t r k)) l
 
 -- ── what a call answers, in the loop ──
--- the line says the call, that is its answer, and these are its words
-pub record Asked (x : Said) (p : Plant) (c : Call) (a : Answer) (ws : List ℤ) : Type 0 where
+-- the line says the call, that is its answer, these are its words, and this a read has shown
+pub record Asked (x : Said) (p : Plant) (c : Call) (a : Answer) (ws : List ℤ) (m : Marked) : Type 0 where
   pub says : x ≡ Says c
   pub answers : Answers (viewCall c) lentWords p a
   pub fills : keptPlant p ≡ true → ws ≡ result (viewCall c) lentWords p .words
+  pub shows : (s k : ℤ) → c ≡ Read s k → isRefused (viewAnswer a) ≡ false → Shows s k p m
+  pub form : plantForm p ≡ true → cachedForm (m .fields) ≡ true
 
--- by the function of the call, or by one over several
-pub asked : (x : Said) (p : Plant) (y z c : Call) (b a : Answer) (vs ws : List ℤ) → x ≡ Says y → y ≡ z → c ≡ y → ws ≡ vs → a ≡ b → dispatch.Answered p lentWords vs b z → Asked x p c a ws
-asked x p y z c b a vs ws ex ez ec ew ea h =
-    let g = subst (dispatch.Answered p lentWords vs b) (sym (ec ∙ ez)) h in
-    record { says = ex ∙ ap Says (sym ec); answers = rw ea (g .0); fills = λ k. ew ∙ g .1 k }
+-- the numbers of a read
+abbrev readOf : Call → ℤ × ℤ
+readOf (Load d f k v) = (pos 0, pos 0)
+readOf (Map k n d1 f1 d2 f2 d3 f3 d4 f4) = (pos 0, pos 0)
+readOf Begin = (pos 0, pos 0)
+readOf (Read s k) = (s, k)
+readOf (Change s d f k v) = (pos 0, pos 0)
+readOf (Commit s) = (pos 0, pos 0)
+readOf (Abandon s) = (pos 0, pos 0)
+readOf (Advance n) = (pos 0, pos 0)
+readOf (Take w) = (pos 0, pos 0)
+readOf (Apply w f) = (pos 0, pos 0)
+readOf (Delete w) = (pos 0, pos 0)
+readOf (Cut w) = (pos 0, pos 0)
+readOf Sweep = (pos 0, pos 0)
+readOf (Store n) = (pos 0, pos 0)
+readOf (Report s) = (pos 0, pos 0)
 
--- by one that fills no words
-pub asked-none : (x : Said) (p : Plant) (y z c : Call) (b a : Answer) (ws : List ℤ) → x ≡ Says y → y ≡ z → c ≡ y → ws ≡ lentWords → a ≡ b
-    → (Fills (viewCall z) lentWords (result (viewCall z) lentWords p .words) → result (viewCall z) lentWords p .words ≡ lentWords) → Answers (viewCall z) lentWords p b → Asked x p c a ws
-asked-none x p y z c b a ws ex ez ec ew ea f h = asked x p y z c b a lentWords ws ex ez ec ew ea (fills-none p z z refl lentWords lentWords b refl f h)
+module _ (x : Said) (p : Plant) (y c : Call) (a : Answer) (ws : List ℤ) (m : Marked) (ex : x ≡ Says y) (ec : c ≡ y) where
+  -- by the function of a read
+  pub asked-read : (s k : ℤ) (vs : List ℤ) (r : Seen) → y ≡ Read s k → ws ≡ vs → a ≡ r .answer → m ≡ r .shown → Answers (viewCall (Read s k)) lentWords p (r .answer)
+      → (keptPlant p ≡ true → vs ≡ result (viewCall (Read s k)) lentWords p .words) → (isRefused (viewAnswer (r .answer)) ≡ false → Shows s k p (r .shown))
+      → (plantForm p ≡ true → cachedForm (r .shown .fields) ≡ true) → Asked x p c a ws m
+  asked-read s k vs r ey ew ea em answers fills shows form =
+      let e = ec ∙ ey in
+      record {
+        says = ex ∙ ap Says (sym ec);
+        answers = rw (e, ea) answers;
+        fills = λ h. ew ∙ fills h ∙ ap (λ z. result (viewCall z) lentWords p .words) (sym e);
+        shows = λ s′ k′ e′ h. subst (λ (z : ℤ × ℤ). Shows (z .0) (z .1) p m) (ap readOf (sym e ∙ e′)) (rw em (shows (rw ea at h)));
+        form = λ f. rw em (form f);
+      }
 
--- by the one for all but read and change
-pub asked-plain : (x : Said) (p : Plant) (y c : Call) (b a : Answer) (ws : List ℤ) → x ≡ Says y → c ≡ y → ws ≡ lentWords → a ≡ b → isPlain y ≡ true
-    → (isPlain y ≡ true → (lent : List ℤ) → Answers (viewCall y) lent p b) → Asked x p c a ws
-asked-plain x p y c b a ws ex ec ew ea t h = asked x p y y c b a lentWords ws ex refl ec ew ea (plain-answered p y t lentWords b h)
+  -- by one that fills no words and shows nothing
+  module _ (n : Marked) (ew : ws ≡ lentWords) (en : m ≡ n) (form : cachedForm (n .fields) ≡ true) (b : Answer) (ea : a ≡ b) where
+    shows-none : (z : Call) → y ≡ z → ((s k : ℤ) → z ≡ Read s k → ⊥) → dispatch.Answered p lentWords lentWords b z → Asked x p c a ws m
+    shows-none z ez never h =
+        let e = ec ∙ ez in
+        let g = subst (dispatch.Answered p lentWords lentWords b) (sym e) h in
+        record { says = ex ∙ ap Says (sym ec); answers = rw ea (g .0); fills = λ k. ew ∙ g .1 k; shows = λ s k e′. absurd (never s k (sym e ∙ e′)); form = λ f. rw en form }
+
+    pub asked-change : (s d f k v : ℤ) → y ≡ Change s d f k v → ((lent : List ℤ) → Answers (viewCall (Change s d f k v)) lent p b) → Asked x p c a ws m
+    asked-change s d f k v ey h =
+        shows-none (Change s d f k v) ey (λ s′ k′ e. let i : _≡_ {A = ℕ} 5 4 = ap (λ z. callNumber (viewCall z)) e in omega (arith, i)) (fills-none p (Change s d f k v) (Change s d f k v) refl lentWords lentWords b refl (λ w. w) (h lentWords))
+
+    -- by the one for all but read and change
+    pub asked-plain : isPlain y ≡ true → (isPlain y ≡ true → (lent : List ℤ) → Answers (viewCall y) lent p b) → Asked x p c a ws m
+    asked-plain t h = shows-none y refl (λ s k e. true≢false (sym t ∙ ap isPlain e)) (plain-answered p y t lentWords b h)
 
 -- ── what a call leaves, in the loop ──
 module _ (c : Call) (p : Plant) (a : Answer) where
@@ -255,10 +300,15 @@ module _ (c : Call) (p : Plant) (a : Answer) where
     done-nothing r er g h = done-whole p (and-keeps (viewCall c) p p a (stays (viewCall c) p a e ee r er g h) (λ f. f))
 
 -- ── the pieces of a piece ──
+-- what a server used and filled before is no matter
+unused : (s : Server) → keptServer s ≡ true → keptServer (record { plant = s .plant; pending = s .pending; used = 0; wrote = 0 }) ≡ true
+unused s k = let o = opened s k in closed (record { plant = s .plant; pending = s .pending; used = 0; wrote = 0 }) (record { plant = o .plant; free = o .free; short = o .short })
+
 pub record Feeding (piece lent : List ℕ) (s : Server) (out : List ℕ) (t : Server) : Type 0 where
   pub long : length out ≡ length lent
   pub within : Within t piece lent
   pub begun : t .used ≡ 0 → t .wrote ≡ 0
+  pub past : keptServer s ≡ true → Past t lent out
   pub fed : keptServer s ≡ true → Fed s piece out t
 
 take-between : (a b : ℕ) (l : List ℕ) → a ≤ b → take b l ≡ take a l ++ between a b l
@@ -285,8 +335,14 @@ feed-start p kept piece lent =
       long = refl;
       within = (omega arith, omega arith);
       begun = λ e. refl;
+      past = λ k. refl;
       fed = λ k. record { feeds = nothing-fed (record { plant = p; pending = kept; used = 0; wrote = 0 }) k; keeps = k };
     }
+
+drop-further : (a b : ℕ) (l m : List ℕ) → a ≤ b → drop a l ≡ drop a m → drop b l ≡ drop b m
+drop-further a b l m h e =
+    let n : a + (b - a) ≡ b = omega (arith, h) in
+    ap (λ i. drop i l) (sym n) ∙ sym (drop-drop (b - a) a l) ∙ ap (drop (b - a)) e ∙ drop-drop (b - a) a m ∙ ap (λ i. drop i m) n
 
 pub feed-next : (piece lent out out′ : List ℕ) (s t r : Server) → Feeding piece lent s out t → length out′ ≡ length out
     → (keptServer t ≡ true → Next t piece out out′ r) → Within r piece out → t .used < r .used → Feeding piece lent s out′ r
@@ -296,6 +352,7 @@ feed-next piece lent out out′ s t r f l n w u =
       long = l ∙ e;
       within = (w .0, rw (← e) (w .1));
       begun = λ z. absurd (omega (arith, u, z));
+      past = λ k. let y = n (f .fed k .keeps) in y .past ∙ drop-further (t .wrote) (r .wrote) out lent (y .upwards .1) (f .past k);
       fed = λ k.
           let x = f .fed k in
           let y = n (x .keeps) in
@@ -323,14 +380,8 @@ module _ (piece lent out : List ℕ) (s t : Server) (f : Feeding piece lent s ou
 
 pub feed-end : (s : Server) (piece lent out : List ℕ) (t : Server) → Feeding piece lent (record { plant = s .plant; pending = s .pending; used = 0; wrote = 0 }) out t
     → (t .wrote + longest ≤ length lent → t .used ≡ length piece) → (longest ≤ length lent → t .used ≡ 0 → length piece ≡ 0)
-    → (keptServer s ≡ true → Fed s piece out t) × (Within t piece lent × ((t .wrote + longest ≤ length lent → t .used ≡ length piece) × (longest ≤ length lent → t .used ≡ 0 → length piece ≡ 0)))
-feed-end s piece lent out t f all some = (
-  λ k.
-      let o = opened s k in
-      let x = f .fed (closed (record { plant = s .plant; pending = s .pending; used = 0; wrote = 0 }) (record { plant = o .plant; free = o .free; short = o .short })) in
-      record { feeds = x .feeds; keeps = x .keeps },
-  (f .within, (all, some)),
-)
+    → (keptServer s ≡ true → Fed s piece out t) × (Within t piece lent × ((t .wrote + longest ≤ length lent → t .used ≡ length piece) × ((longest ≤ length lent → t .used ≡ 0 → length piece ≡ 0) × (keptServer s ≡ true → Past t lent out))))
+feed-end s piece lent out t f all some = (λ k. let x = f .fed (unused s k) in record { feeds = x .feeds; keeps = x .keeps }, (f .within, (all, (some, λ k. f .past (unused s k)))))
 
 -- ── the end of input ──
 -- a number that is not 0 is 1 or more
@@ -341,12 +392,11 @@ byOne (suc n) h = omega arith
 module _ (s : Server) (e : Bool) (ee : e ≡ isEmpty (viewPending (s .pending))) where
   pub no-last : e ≡ true → (lent : List ℕ) → (longest ≤ length lent → keptServer s ≡ true → Finished s lent (record { plant = s .plant; pending = s .pending; used = 0; wrote = 0 }))
   no-last t lent r k =
-      let o = opened s k in
       let none : viewPending (s .pending) ≡ [] = nil-is (viewPending (s .pending)) (sym ee ∙ t) in
       record {
         serves = rw (← ee, t) (refl, refl);
         ends = none;
-        keeps = closed (record { plant = s .plant; pending = s .pending; used = 0; wrote = 0 }) (record { plant = o .plant; free = o .free; short = o .short });
+        keeps = unused s k;
       }
 
   -- the line that byte 10 would have ended

@@ -4,7 +4,7 @@ use Prim.Native.Nat.{_+_, _<_, _≤_, ℕ}
 use mathlib.Core.Path.{_≡_}
 use mathlib.Core.Bool.{Bool, _&&_, not, true}
 use mathlib.Core.List.{List, []}
-use lib.ListN.{length, take}
+use lib.ListN.{length, take, drop}
 use lib.Dec.{leb}
 use Rattle.format.specs.Bytes.{lineLimit}
 use Rattle.format.specs.Serving.{Serves}
@@ -22,6 +22,10 @@ keptServer s = keptPlant (s .plant) && (not (hasEnd (viewPending (s .pending))) 
 abbrev pub Within : Server → List ℕ → List ℕ → Type 0
 Within s piece out = (s .used ≤ length piece) × (s .wrote ≤ length out)
 
+-- the bytes lent past those filled are as they were
+abbrev pub Past : Server → List ℕ → List ℕ → Type 0
+Past s lent out = drop (s .wrote) out ≡ drop (s .wrote) lent
+
 -- a piece is left, and room for an answer
 abbrev pub Ready : Server → List ℕ → List ℕ → Type 0
 Ready s piece out = (s .used < length piece) × (s .wrote + longest ≤ length out)
@@ -30,6 +34,7 @@ Ready s piece out = (s .used < length piece) × (s .wrote + longest ≤ length o
 pub record Next (s : Server) (piece lent out : List ℕ) (t : Server) : Type 0 where
   pub feeds : Feeds (viewPending (s .pending)) (viewPlant (s .plant)) (between (s .used) (t .used) piece) (between (s .wrote) (t .wrote) out) (viewPending (t .pending)) (viewPlant (t .plant))
   pub before : take (s .wrote) out ≡ take (s .wrote) lent
+  pub past : Past t lent out
   pub upwards : (s .used ≤ t .used) × (s .wrote ≤ t .wrote)
   pub keeps : keptServer t ≡ true
 

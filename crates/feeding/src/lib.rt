@@ -11,9 +11,10 @@ ghost use Rattle.printing.specs.Line.{longest};
 ghost use Rattle.plant.specs.View.{viewPlant};
 ghost use Rattle.pending.specs.View.{viewPending, between};
 ghost use Rattle.lines.specs.View.{viewSaid};
-ghost use Rattle.feeding.specs.Fed.{keptServer, Within, Fed, Finished};
+ghost use Rattle.feeding.specs.Fed.{keptServer, Within, Past, Fed, Finished};
 use calls::Call;
 use lines::Said;
+use marking::Marked;
 use pending::Pending;
 use plant::Plant;
 
@@ -57,12 +58,13 @@ fn heard(kept: Pending, piece: &[u8], from: usize, to: usize) -> Said
 }
 
 // Takes the piece as far as there is room for its answers. The plant lies here: calls are asked where it lies and their tables are written
-// in place, because a plant that goes through a function is copied. Load, map, abandon, sweep and store do not come often.
+// in place, because a plant that goes through a function is copied. What a read shows is kept for the cache, and not worked out again.
 pub fn feed(s: Server, piece: &[u8], out: &mut [u8]) -> Server
     ensures feeds { λ r. ⌜ (keptServer s ≡ true → Fed s (now (piece .entry)) (now (out .exit)) r) ⌝ }
     ensures within { λ r. ⌜ Within r (now (piece .entry)) (now (out .entry)) ⌝ }
     ensures all { λ r. ⌜ (r .wrote + longest ≤ length (now (out .entry)) → r .used ≡ length (now (piece .entry))) ⌝ }
     ensures some { λ r. ⌜ (longest ≤ length (now (out .entry)) → r .used ≡ 0 → length (now (piece .entry)) ≡ 0) ⌝ }
+    ensures past { λ r. ⌜ (keptServer s ≡ true → Past r (now (out .entry)) (now (out .exit))) ⌝ }
 {
     let mut p = s.plant;
     let mut kept = s.pending;
@@ -98,8 +100,13 @@ pub fn feed(s: Server, piece: &[u8], out: &mut [u8]) -> Server
             }
         };
         let mut words = [0i32; serving::WORDS];
+        let mut shown = Marked::nothing();
         let a = match c {
-            Call::Read(s, k) => read::answer(p, s, k, &mut words),
+            Call::Read(s, k) => {
+                let seen = read::ask(p, s, k, &mut words);
+                shown = seen.shown;
+                seen.answer
+            }
             Call::Change(s, d, f, k, v) => change::answer(p, s, d, f, k, v),
             _ => dispatch::plain(p, c),
         };
@@ -113,6 +120,14 @@ pub fn feed(s: Server, piece: &[u8], out: &mut [u8]) -> Server
             continue;
         }
         match c {
+            Call::Load(d, f, k, v) => {
+                let store = load::after(p, d, f, k, v);
+                p.store = store;
+            }
+            Call::Map(k, n, d1, f1, d2, f2, d3, f3, d4, f4) => {
+                let keys = map::after(p, k, n, d1, f1, d2, f2, d3, f3, d4, f4);
+                p.keys = keys;
+            }
             Call::Begin => {
                 let t = begin::after(p);
                 let sessions = t.sessions;
@@ -120,7 +135,7 @@ pub fn feed(s: Server, piece: &[u8], out: &mut [u8]) -> Server
                 p.next = t.next;
             }
             Call::Read(s, k) => {
-                let t = read::after(p, s, k);
+                let t = read::after(p, s, k, shown);
                 let cache = t.cache;
                 let sessions = t.sessions;
                 p.cache = cache;
@@ -137,6 +152,10 @@ pub fn feed(s: Server, piece: &[u8], out: &mut [u8]) -> Server
                 let sessions = t.sessions;
                 p.buffer = buffer;
                 p.cache = cache;
+                p.sessions = sessions;
+            }
+            Call::Abandon(s) => {
+                let sessions = abandon::after(p, s);
                 p.sessions = sessions;
             }
             Call::Advance(n) => {
@@ -181,8 +200,15 @@ pub fn feed(s: Server, piece: &[u8], out: &mut [u8]) -> Server
                 p.hands = hands;
                 p.queue = queue;
             }
+            Call::Sweep => {
+                let rows = sweep::after(p);
+                p.rows = rows;
+            }
+            Call::Store(n) => {
+                let near = nearness::after(p, n);
+                p.near = near;
+            }
             Call::Report(_) => {}
-            _ => p = leaving::after(p, c, a),
         }
     }
     Server {
@@ -197,6 +223,7 @@ pub fn feed(s: Server, piece: &[u8], out: &mut [u8]) -> Server
 pub fn finish(s: Server, out: &mut [u8]) -> Server
     ensures serves { λ r. ⌜ (longest ≤ length (now (out .entry)) → keptServer s ≡ true → Finished s (now (out .exit)) r) ⌝ }
     ensures within { λ r. ⌜ r .wrote ≤ length (now (out .entry)) ⌝ }
+    ensures past { λ r. ⌜ (keptServer s ≡ true → Past r (now (out .entry)) (now (out .exit))) ⌝ }
 {
     let kept = s.pending;
     if kept.is_empty() {

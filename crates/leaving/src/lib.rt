@@ -47,7 +47,8 @@ fn performed(mut p: Plant, c: Call) -> Plant
             p.next = t.next;
         }
         Call::Read(s, k) => {
-            let t = read::after(p, s, k);
+            let shown = read::shown(p, s, k);
+            let t = read::after(p, s, k, shown);
             let cache = t.cache;
             let sessions = t.sessions;
             p.cache = cache;

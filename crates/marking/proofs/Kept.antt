@@ -18,7 +18,7 @@ use Rattle.rules.proofs.KeptParts.{Kept}
 use Rattle.rules.proofs.Away.{value-is, key-places, cachedFields, cached-fields, untouched-shows}
 use Rattle.showing.specs.Shown.{cachedAt}
 use Rattle.seeing.specs.Value.{value}
-use Rattle.marking.specs.Fields.{ownOf, workedFields, shownFields, cacheNow}
+use Rattle.marking.specs.Fields.{ownOf, workedFields, shownFields}
 
 at-fields : (k : ℕ) (l : List M.Cached) → cachedAt k l .fields ≡ cachedFields k l
 unfolding cachedAt
@@ -47,9 +47,10 @@ module _ (p : M.Plant) (h : Kept p) where
         (λ b. rw (t, b) (at-fields k (p .cache) ∙ cached-fields p k h b ∙ sym (untouched-shows p (ownOf n p) (p .keys k) t)))
         (λ b. rw (t, b) worked-is))
 
-    pub cache-is : (pick : Pick) → pick .gives ≡ 0 → cacheNow n k p ≡ cacheAfter n k pick p
-    unfolding cacheNow cacheAfter
+    -- what is cached of what is shown: the oldest gives way
+    pub cache-is : (pick : Pick) → pick .gives ≡ 0 → cacheBy (mark n k p) 0 (record { key = k; fields = shownFields n k p }) (p .cache) ≡ cacheAfter n k pick p
+    unfolding cacheAfter
     cache-is pick g =
         byCase (touched (ownOf n p) (p .keys k))
         (λ t. rw t refl)
-        (λ t. ap₂ (λ x fs. cacheBy (mark n k p) x (record { key = k; fields = fs }) (p .cache)) (sym g) (worked-is ∙ untouched-shows p (ownOf n p) (p .keys k) t))
+        (λ t. ap₂ (λ x fs. cacheBy (mark n k p) x (record { key = k; fields = fs }) (p .cache)) (sym g) (shown-is ∙ untouched-shows p (ownOf n p) (p .keys k) t))

@@ -1,9 +1,10 @@
 -- What a read shows and caches: one law for each way out of a function.
 use mathlib.Core.Path.{_≡_, refl, sym, _∙_, ap, ap₂}
 use mathlib.Core.Bool.{Bool, true, false, cond}
-use mathlib.Core.List.{List, map}
+use mathlib.Core.List.{List, [], _∷_, map}
 use Prim.Native.Nat.{ℕ, _≤_, _<_}
-use borrow.Author.Tests.{le-leb, lt-leb}
+use lib.Dec.{eqb}
+use borrow.Author.Tests.{le-leb, lt-leb, eqb-true}
 use lib.ListN.{length}
 use Rattle.rules.specs.Limits.{cacheLimit}
 use Rattle.rules.specs.Lists.{pushed, dropAt}
@@ -13,7 +14,8 @@ use Rattle.rules.specs.Tables as M
 use Rattle.rules.specs.Tables.{pending, changesIn}
 use Rattle.rules.specs.Reading.{seenAway}
 use Rattle.rules.specs.Calls as C
-use Rattle.rules.specs.Effects.{touched, evicted, mark}
+use Rattle.rules.specs.Effects.{touched, evicted, mark, cacheBy}
+use Rattle.rules.proofs.Laws.{byCase}
 use Rattle.keys.specs.View.{viewKey, viewKeys}
 use Rattle.keys.specs.declared.Keys.{Keys}
 use Rattle.keys.specs.declared.Key.{Key}
@@ -26,6 +28,9 @@ use Rattle.cached.specs.View.{viewCached}
 use Rattle.cached.specs.declared.Cached.{Cached}
 use Rattle.cache.specs.View.{viewCache}
 use Rattle.cache.specs.declared.Cache.{Cache}
+use Rattle.answers.specs.View.{viewMark}
+use Rattle.answers.specs.declared.Mark.{Mark}
+use Rattle.answers.specs.declared.Mark.the-variants as variant
 use Rattle.store.specs.View.{viewStore}
 use Rattle.store.specs.declared.Store.{Store}
 use Rattle.rows.specs.View.{viewRows}
@@ -35,7 +40,7 @@ use Rattle.buffer.specs.declared.Buffer.{Buffer}
 use Rattle.showing.specs.Shown.{cachedAt}
 use Rattle.seeing.specs.Value.{valueBy, value}
 use Rattle.seeing.specs.Sight.{sight}
-use Rattle.marking.specs.Fields.{workedFields, byMark, shownFields, cacheNow}
+use Rattle.marking.specs.Fields.{workedFields, byMark, shownFields}
 
 -- ── worked out ──
 module _ (near : Bool) (store : S.Stock) (keys : ℕ → List S.Place) (cache : List M.Cached) (buffer : List M.Batch) (rows : List ℕ) (own : List Update) (qs : List S.Place) (k : ℕ) where
@@ -48,7 +53,13 @@ module _ (near : Bool) (store : S.Stock) (keys : ℕ → List S.Place) (cache : 
       → viewCached r ≡ record { key = k; fields = map (valueBy near store keys cache buffer rows own) qs }
   worked-away r h e = e ∙ rw h refl
 
--- ── shown and cached, by the mark ──
+-- the cached key of a number has that number
+at-key : (k : ℕ) (l : List M.Cached) → cachedAt k l ≡ record { key = k; fields = cachedAt k l .fields }
+unfolding cachedAt
+at-key k [] = refl
+at-key k (c ∷ l) = byCase (eqb k (c .key)) (λ t. rw (t, eqb-true k (c .key) t) refl) (λ t. rw t (at-key k l))
+
+-- ── shown, by the mark ──
 module _ (near : Bool) (store : Store) (keys : Keys) (cache : Cache) (sessions : Sessions) (buffer : Buffer) (rows : Rows) (n k : ℕ)
     (s : Session) (es : viewSession s ≡ M.session n (viewSessions sessions)) (key : Key) (ek : viewKey key ≡ viewKeys keys k)
     (t : Bool) (et : t ≡ touched (viewChanges (s .changes)) (viewKey key)) where
@@ -63,43 +74,42 @@ module _ (near : Bool) (store : Store) (keys : Keys) (cache : Cache) (sessions :
   unfolding sight
   marks-own h = rw (own-is, sym ek, sym et, h) refl
 
-  worked-is : (r : Cached) → viewCached r ≡ record { key = k; fields = map (valueBy near (viewStore store) (viewKeys keys) (viewCache cache) (viewBuffer buffer) (viewRows rows) (viewChanges (s .changes))) (viewKey key) } → viewCached r .fields ≡ workedFields n k p
+  worked-is : (r : Cached) → viewCached r ≡ record { key = k; fields = map (valueBy near (viewStore store) (viewKeys keys) (viewCache cache) (viewBuffer buffer) (viewRows rows) (viewChanges (s .changes))) (viewKey key) } → viewCached r ≡ record { key = k; fields = workedFields n k p }
   unfolding sight
-  worked-is r e = ap (λ (x : M.Cached). x .fields) e ∙ ap₂ (λ own qs. map (value p own) qs) (sym own-is) ek
+  worked-is r e = e ∙ ap₂ (λ own qs. record { key = k; fields = map (value p own) qs }) (sym own-is) ek
 
-  pub shows-own : (r : Cached) → t ≡ true → viewCached r ≡ record { key = k; fields = map (valueBy near (viewStore store) (viewKeys keys) (viewCache cache) (viewBuffer buffer) (viewRows rows) (viewChanges (s .changes))) (viewKey key) } → viewCached r .fields ≡ shownFields n k p
+  pub shows-own : (r : Cached) → t ≡ true → viewCached r ≡ record { key = k; fields = map (valueBy near (viewStore store) (viewKeys keys) (viewCache cache) (viewBuffer buffer) (viewRows rows) (viewChanges (s .changes))) (viewKey key) } → viewCached r ≡ record { key = k; fields = shownFields n k p }
   unfolding shownFields
-  shows-own r h e = worked-is r e ∙ ap (λ m. byMark m n k p) (marks-own h)
-
-  pub caches-none : t ≡ true → viewCache cache ≡ cacheNow n k p
-  unfolding cacheNow sight
-  caches-none h = rw (own-is, sym ek, sym et, h) refl
+  shows-own r h e = worked-is r e ∙ ap (λ m. record { key = k; fields = byMark m n k p }) (marks-own h)
 
   module _ (h : t ≡ false) (b : Bool) (eb : b ≡ M.isCached k (viewCache cache)) where
     pub marks-cached : b ≡ true → C.fromCache ≡ mark n k p
     unfolding sight
     marks-cached g = rw (own-is, sym ek, sym et, h, sym eb, g) refl
 
-    pub shows-cached : (r : Cached) → b ≡ true → viewCached r ≡ cachedAt k (viewCache cache) → viewCached r .fields ≡ shownFields n k p
+    pub shows-cached : (r : Cached) → b ≡ true → viewCached r ≡ cachedAt k (viewCache cache) → viewCached r ≡ record { key = k; fields = shownFields n k p }
     unfolding shownFields sight
-    shows-cached r g e = ap (λ (x : M.Cached). x .fields) e ∙ rw (own-is, sym ek, sym et, h, sym eb, g) refl
-
-    pub caches-same : b ≡ true → viewCache cache ≡ cacheNow n k p
-    unfolding cacheNow sight
-    caches-same g = rw (own-is, sym ek, sym et, h, sym eb, g) refl
+    shows-cached r g e = e ∙ at-key k (viewCache cache) ∙ rw (own-is, sym ek, sym et, h, sym eb, g) refl
 
     pub marks-now : b ≡ false → C.cachedNow ≡ mark n k p
     unfolding sight
     marks-now g = rw (own-is, sym ek, sym et, h, sym eb, g) refl
 
-    pub shows-now : (r : Cached) → b ≡ false → viewCached r ≡ record { key = k; fields = map (valueBy near (viewStore store) (viewKeys keys) (viewCache cache) (viewBuffer buffer) (viewRows rows) (viewChanges (s .changes))) (viewKey key) } → viewCached r .fields ≡ shownFields n k p
+    pub shows-now : (r : Cached) → b ≡ false → viewCached r ≡ record { key = k; fields = map (valueBy near (viewStore store) (viewKeys keys) (viewCache cache) (viewBuffer buffer) (viewRows rows) (viewChanges (s .changes))) (viewKey key) } → viewCached r ≡ record { key = k; fields = shownFields n k p }
     unfolding shownFields
-    shows-now r g e = worked-is r e ∙ ap (λ m. byMark m n k p) (marks-now g)
+    shows-now r g e = worked-is r e ∙ ap (λ m. record { key = k; fields = byMark m n k p }) (marks-now g)
 
-    pub caches-one : (c : Cached) (room r : Cache) → b ≡ false → viewCached c ≡ record { key = k; fields = map (valueBy near (viewStore store) (viewKeys keys) (viewCache cache) (viewBuffer buffer) (viewRows rows) (viewChanges (s .changes))) (viewKey key) }
-        → viewCache room ≡ evicted 0 (viewCache cache) → viewCache r ≡ pushed cacheLimit (viewCache room) (viewCached c) → viewCache r ≡ cacheNow n k p
-    unfolding cacheNow sight
-    caches-one c room r g ec er e = e ∙ rw (ec, er, own-is, sym ek, sym et, h, sym eb, g) refl
+-- ── cached, by the mark ──
+module _ (m : Mark) (c : Cached) (cache : Cache) where
+  pub caches-one : m ≡ variant.CachedNow → (room r : Cache) → viewCache room ≡ evicted 0 (viewCache cache) → viewCache r ≡ pushed cacheLimit (viewCache room) (viewCached c)
+      → viewCache r ≡ cacheBy (viewMark m) 0 (viewCached c) (viewCache cache)
+  caches-one e room r er q = q ∙ rw (e, er) refl
+
+  pub caches-none : m ≡ variant.FromCache → viewCache cache ≡ cacheBy (viewMark m) 0 (viewCached c) (viewCache cache)
+  caches-none e = rw e refl
+
+  pub caches-own : m ≡ variant.OwnChange → viewCache cache ≡ cacheBy (viewMark m) 0 (viewCached c) (viewCache cache)
+  caches-own e = rw e refl
 
 -- ── room for one more ──
 module _ (c : Cache) (m : ℕ) (e : m ≡ length (viewCache c)) where

@@ -1,11 +1,11 @@
--- What a read shows and caches, as the code finds it. On a kept plant these are the fields that the session sees (`proofs/Kept`).
+-- What a read shows, as the code finds it. On a kept plant these are the fields that the session sees (`proofs/Kept`).
 use Prim.Native.Nat.{ℕ}
 use mathlib.Core.List.{List, map}
 use Rattle.rules.specs.Values as S
 use Rattle.rules.specs.Changes.{Update}
 use Rattle.rules.specs.Tables as M
 use Rattle.rules.specs.Calls.{Mark, fromCache, cachedNow, ownChange}
-use Rattle.rules.specs.Effects.{mark, cacheBy}
+use Rattle.rules.specs.Effects.{mark}
 use Rattle.seeing.specs.Value.{value}
 use Rattle.showing.specs.Shown.{cachedAt}
 
@@ -23,7 +23,3 @@ byMark ownChange n k p = workedFields n k p
 
 unfoldable pub shownFields : ℕ → ℕ → M.Plant → List S.Field
 shownFields n k p = byMark (mark n k p) n k p
-
--- the cached keys afterwards: the oldest gives way
-unfoldable pub cacheNow : ℕ → ℕ → M.Plant → List M.Cached
-cacheNow n k p = cacheBy (mark n k p) 0 (record { key = k; fields = workedFields n k p }) (p .cache)

@@ -1,2 +1,2 @@
--- What a read shows and caches.
+-- What a read shows.
 pub mod Fields

@@ -1,8 +1,8 @@
-// What a read shows, with its mark, and what it caches: at the numbers of a session and a key, for all tables.
+// What a read shows, with its mark, at the numbers of a session and a key, and what it caches of that: for all tables.
 ghost use mathlib.Core.Path.{_≡_};
 ghost use mathlib.Core.Bool.{true};
 ghost use mathlib.Core.List.{map};
-ghost use Rattle.rules.specs.Effects.{evicted};
+ghost use Rattle.rules.specs.Effects.{evicted, cacheBy};
 ghost use Rattle.rules.specs.Effects as E;
 ghost use Rattle.keys.specs.View.{viewKey, viewKeys};
 ghost use Rattle.changes.specs.View.{viewChanges};
@@ -16,7 +16,7 @@ ghost use Rattle.cache.specs.Form.{cacheForm};
 ghost use Rattle.answers.specs.View.{viewMark};
 ghost use Rattle.seeing.specs.Value.{valueBy};
 ghost use Rattle.seeing.specs.Sight.{sight};
-ghost use Rattle.marking.specs.Fields.{shownFields, cacheNow};
+ghost use Rattle.marking.specs.Fields.{shownFields};
 use answers::Mark;
 use buffer::Buffer;
 use cache::Cache;
@@ -32,6 +32,18 @@ use store::Store;
 pub struct Marked {
     pub mark: Mark,
     pub fields: Cached,
+}
+
+impl Marked {
+    pub fn nothing() -> Self
+        ensures { λ r. ⌜ cachedForm (r .fields) ≡ true ⌝ }
+    {
+        let fields = Cached::of(0);
+        Self {
+            mark: Mark::FromCache,
+            fields,
+        }
+    }
 }
 
 // The fields of the key's places, worked out: without a look at the store where it is away.
@@ -69,7 +81,8 @@ pub fn shown(
     k: u8,
 ) -> Marked
     ensures mark { λ r. ⌜ viewMark (r .mark) ≡ E.mark n k (sight near store keys cache sessions buffer rows) ⌝ }
-    ensures fields { λ r. ⌜ viewCached (r .fields) .fields ≡ shownFields n k (sight near store keys cache sessions buffer rows) ⌝ }
+    ensures fields { λ r. ⌜ viewCached (r .fields) ≡ record { key = k; fields = shownFields n k (sight near store keys cache sessions buffer rows) } ⌝ }
+    ensures form { λ r. ⌜ (storeForm store ≡ true → cacheForm cache ≡ true → cachedForm (r .fields) ≡ true) ⌝ }
 {
     let s = sessions.session(n);
     let own = s.changes;
@@ -108,30 +121,15 @@ fn with_room(cache: Cache) -> Cache
     cache
 }
 
-// The key is cached if it was not, and no change of the session's own is at a place.
-pub fn cached(
-    near: bool,
-    store: Store,
-    keys: Keys,
-    cache: Cache,
-    sessions: Sessions,
-    buffer: Buffer,
-    rows: Rows,
-    n: u32,
-    k: u8,
-) -> Cache
-    ensures shows { λ r. ⌜ viewCache r ≡ cacheNow n k (sight near store keys cache sessions buffer rows) ⌝ }
-    ensures form { λ r. ⌜ (storeForm store ≡ true → cacheForm cache ≡ true → cacheForm r ≡ true) ⌝ }
+// The cached keys after a read that showed this: one more where it came neither from them nor from a change of the session's own.
+pub fn cached(cache: Cache, shown: Marked) -> Cache
+    ensures shows { λ r. ⌜ viewCache r ≡ cacheBy (viewMark (shown .mark)) 0 (viewCached (shown .fields)) (viewCache cache) ⌝ }
+    ensures form { λ r. ⌜ (cachedForm (shown .fields) ≡ true → cacheForm cache ≡ true → cacheForm r ≡ true) ⌝ }
 {
-    let s = sessions.session(n);
-    let changes = s.changes;
-    let key = keys.key(k);
-    if changes.touches_any(key) {
-        return cache;
+    let mark = shown.mark;
+    match mark {
+        Mark::CachedNow => with_room(cache).push(shown.fields),
+        Mark::FromCache => cache,
+        Mark::OwnChange => cache,
     }
-    if cache.has(k) {
-        return cache;
-    }
-    let c = worked(near, store, keys, cache, buffer, rows, changes, key, k);
-    with_room(cache).push(c)
 }

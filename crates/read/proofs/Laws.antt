@@ -1,5 +1,5 @@
 -- What read answers, the words it fills and the plant it leaves, one law for each way out.
-use mathlib.Core.Path.{_≡_, refl, sym, _∙_, ap}
+use mathlib.Core.Path.{_≡_, refl, sym, _∙_, ap, ap₂}
 use mathlib.Core.Bool.{Bool, true, false, cond, true≢false}
 use mathlib.Core.Option.{Option, none, some}
 use mathlib.Core.List.{List, [], _∷_, map}
@@ -8,6 +8,7 @@ use lib.IntN.{ℤ, pos}
 use lib.ListN.{length, length-map}
 use mir.Syntax.{w64}
 use mir.Val.{SFits}
+use mir.Facts.{toZ-ofZ}
 use borrow.Author.Tests.{not-false, ltb-true, ltb-false, le-leb}
 use Rattle.rules.specs.Limits.{keyCount, lastSession, wordsPerField}
 use Rattle.rules.specs.Values.{below, natOf}
@@ -18,7 +19,7 @@ use Rattle.rules.specs.Reading.{seen}
 use Rattle.rules.specs.Calls.{Call, Read, Pick, fine, markNumber}
 use Rattle.rules.specs.Calls as C
 use Rattle.rules.specs.Conditions.{conditions}
-use Rattle.rules.specs.Effects.{mark, withShared, onlyAt, afterRead}
+use Rattle.rules.specs.Effects.{mark, withShared, onlyAt, cacheBy, afterRead}
 use Rattle.rules.specs.Step.{accepted, settle, step}
 use Rattle.rules.proofs.Laws.{NoneMet, none-met, not-met}
 use Rattle.rules.proofs.Steps.{step-fine}
@@ -32,8 +33,8 @@ use Rattle.session.proofs.Granting.{shared-kept}
 use Rattle.sessions.specs.View.{viewSessions}
 use Rattle.sessions.specs.Form.{sessionsForm}
 use Rattle.sessions.specs.declared.Sessions.{Sessions}
-use Rattle.store.specs.View.{storeForm}
 use Rattle.cached.specs.View.{viewCached}
+use Rattle.cached.specs.Form.{cachedForm}
 use Rattle.cached.specs.declared.Cached.{Cached}
 use Rattle.cache.specs.View.{viewCache}
 use Rattle.cache.specs.Form.{cacheForm}
@@ -43,6 +44,8 @@ use Rattle.plant.specs.declared.Plant.{Plant}
 use Rattle.plant.proofs.PlantLaws.{kept-parts}
 use Rattle.plant.proofs.Formed.{form-parts, formed}
 use Rattle.answers.specs.View.{viewAnswer, viewMark, isRefused}
+use Rattle.answers.specs.Own.{isAnswerOf}
+use Rattle.answers.proofs.Own.{refused-own}
 use Rattle.answers.specs.declared.Answer.{Answer}
 use Rattle.answers.specs.declared.Mark.{Mark}
 use Rattle.promises.specs.Promise.{chosen, result, Answers, Performs}
@@ -50,8 +53,10 @@ use Rattle.promises.proofs.Telling.{none-held, left-accepted}
 use Rattle.showing.specs.Shown.{shownIn}
 use Rattle.turning.specs.Told.{told}
 use Rattle.seeing.specs.Sight.{sight, sightAway}
-use Rattle.marking.specs.Fields.{ownOf, byMark, shownFields, cacheNow}
+use Rattle.marking.specs.Fields.{ownOf, byMark, shownFields}
+use Rattle.marking.specs.declared.Marked.{Marked}
 use Rattle.marking.proofs.Kept.{shown-is, cache-is}
+use Rattle.read.specs.Shows.{sessionAt, keyAt, Shows}
 use Rattle.read.proofs.Named.{named}
 
 -- ── the tables looked at are the plant's ──
@@ -76,10 +81,6 @@ module _ (p : Plant) (n k : ℕ) where
       go C.cachedNow = refl
       go C.ownChange = refl
 
-  same-cache : cacheNow n k looked ≡ cacheNow n k (viewPlant p)
-  unfolding cacheNow sight viewPlant
-  same-cache = refl
-
 -- ── what a refusal, or none, says of the step ──
 told-refused : (o : Option Refusal) (c : Call) (lent : List ℤ) (pick : Pick) (p : M.Plant) → isRefused (told o) ≡ true → (told o ≡ settle o c lent pick p .answer) × (lent ≡ settle o c lent pick p .words)
 told-refused none c lent pick p h = absurd (true≢false (sym h))
@@ -103,7 +104,7 @@ module _ (p : Plant) (h : keptPlant p ≡ true) (n k : ℕ) (lent : List ℤ) (m
   unfolding conditions
   fields-are = shown-is (viewPlant p) (kept-parts p h) n k in-range (not-met _ storeAway (m .1 .1 .1 .1 .1 .1 .0))
 
-  cache-are : cacheNow n k (viewPlant p) ≡ afterRead n k (chosen (viewPlant p)) (viewPlant p) .cache
+  cache-are : cacheBy (mark n k (viewPlant p)) 0 (record { key = k; fields = shownFields n k (viewPlant p) }) (viewPlant p .cache) ≡ afterRead n k (chosen (viewPlant p)) (viewPlant p) .cache
   unfolding conditions afterRead chosen
   cache-are = cache-is (viewPlant p) (kept-parts p h) n k in-range (not-met _ storeAway (m .1 .1 .1 .1 .1 .1 .0)) (chosen (viewPlant p)) refl
 
@@ -113,6 +114,9 @@ module _ (p : Plant) (h : keptPlant p ≡ true) (n k : ℕ) (lent : List ℤ) (m
       let qs : List S.Place = viewPlant p .keys k in
       let l : wordsPerField * length qs ≤ length lent = ltb-false (length lent) (wordsPerField * length qs) (not-met _ fewWords (m .1 .1 .1 .1 .0)) in
       rw (e ∙ fields-are, length-map qs (seen (viewPlant p) (ownOf n (viewPlant p))), le-leb (wordsPerField * length qs) (length lent) l) refl
+
+pub own-refusal : (z y : ℤ) (a : Answer) (r : Bool) → r ≡ isRefused (viewAnswer a) → r ≡ true → isAnswerOf (Read z y) a ≡ true
+own-refusal z y a r er t = refused-own (Read z y) a (sym er ∙ t)
 
 -- ── the answer and the words ──
 module _ (p : Plant) (z : ℤ) (fz : SFits w64 z) (n : ℕ) (en : n ≡ cond (below (held z) (suc lastSession)) (natOf (held z)) 0)
@@ -149,13 +153,31 @@ module _ (p : Plant) (z : ℤ) (fz : SFits w64 z) (n : ℕ) (en : n ≡ cond (be
     unfolding accepted
     marked m e h = ap (λ (x : C.Mark). fine (markNumber x ∷ [])) (e ∙ same-mark p n k) ∙ ap (λ (x : C.Result). x .answer) (reads h)
 
-    pub filled : (c : Cached) (ws : List ℤ) → viewCached c .fields ≡ shownFields n k (looked p n k) → ws ≡ shownIn (viewCached c .fields) lent → keptPlant p ≡ true → ws ≡ result (Read z y) lent p .words
-    filled c ws e w h = w ∙ words-are p h n k lent none-meets (viewCached c .fields) (e ∙ same-fields p n k) ∙ ap (λ (x : C.Result). x .words) (reads h)
+    pub filled : (c : Cached) (ws : List ℤ) → viewCached c ≡ record { key = k; fields = shownFields n k (looked p n k) } → ws ≡ shownIn (viewCached c .fields) lent → keptPlant p ≡ true → ws ≡ result (Read z y) lent p .words
+    filled c ws e w h = w ∙ words-are p h n k lent none-meets (viewCached c .fields) (ap (λ (x : M.Cached). x .fields) e ∙ same-fields p n k) ∙ ap (λ (x : C.Result). x .words) (reads h)
+
+-- ── what it shows ──
+module _ (p : Plant) (z : ℤ) (fz : SFits w64 z) (n : ℕ) (en : n ≡ cond (below (held z) (suc lastSession)) (natOf (held z)) 0)
+    (y : ℤ) (fy : SFits w64 y) (k : ℕ) (ek : k ≡ cond (below (held y) keyCount) (natOf (held y)) keyCount) where
+  session-is : n ≡ sessionAt z
+  session-is = en ∙ ap sessionAt (toZ-ofZ fz)
+
+  key-is : k ≡ keyAt y
+  key-is = ek ∙ ap keyAt (toZ-ofZ fy)
+
+  pub shown-so : (m : Marked) → viewMark (m .mark) ≡ mark n k (looked p n k) → viewCached (m .fields) ≡ record { key = k; fields = shownFields n k (looked p n k) } → Shows z y p m
+  shown-so m em ef = (em ∙ same-mark p n k ∙ ap₂ (λ a b. mark a b (viewPlant p)) session-is key-is, ef ∙ ap (λ fs. record { key = k; fields = fs }) (same-fields p n k) ∙ ap₂ (λ a b. record { key = b; fields = shownFields a b (viewPlant p) }) session-is key-is)
+
+  caches-so : (m : Marked) → Shows z y p m → cacheBy (viewMark (m .mark)) 0 (viewCached (m .fields)) (viewCache (p .cache)) ≡ cacheBy (mark n k (viewPlant p)) 0 (record { key = k; fields = shownFields n k (viewPlant p) }) (viewCache (p .cache))
+  caches-so m s =
+      ap₂ (λ x c. cacheBy x 0 c (viewCache (p .cache)))
+      (s .0 ∙ sym (ap₂ (λ a b. mark a b (viewPlant p)) session-is key-is))
+      (s .1 ∙ sym (ap₂ (λ a b. record { key = b; fields = shownFields a b (viewPlant p) }) session-is key-is))
 
 -- ── the plant left ──
 module _ (p : Plant) (z : ℤ) (fz : SFits w64 z) (y : ℤ) (fy : SFits w64 y)
     (n : ℕ) (en : n ≡ cond (below (held z) (suc lastSession)) (natOf (held z)) 0) (k : ℕ) (ek : k ≡ cond (below (held y) keyCount) (natOf (held y)) keyCount)
-    (c : Cache) (ec : viewCache c ≡ cacheNow n k (looked p n k)) (key : Key) (eq : viewKey key ≡ viewKeys (p .keys) k)
+    (m : Marked) (c : Cache) (ec : viewCache c ≡ cacheBy (viewMark (m .mark)) 0 (viewCached (m .fields)) (viewCache (p .cache))) (key : Key) (eq : viewKey key ≡ viewKeys (p .keys) k)
     (s : Sessions) (es : viewSessions s ≡ M.each (onlyAt n (withSharedAt (p .clock) (within (viewKey key)))) (viewSessions (p .sessions))) where
   abbrev left : Plant
   left = record { store = p .store; keys = p .keys; cache = c; sessions = s; buffer = p .buffer; rows = p .rows; hands = p .hands; queue = p .queue; clock = p .clock; near = p .near; next = p .next }
@@ -167,16 +189,16 @@ module _ (p : Plant) (z : ℤ) (fz : SFits w64 z) (y : ℤ) (fy : SFits w64 y)
       es ∙ shared-kept n (kept-parts p h .slots) d (within (viewKey key)) ∙ ap (λ (qs : List S.Place). M.each (onlyAt n (withShared (p .clock) qs)) (viewSessions (p .sessions)))
       (ap within eq ∙ within-all (viewKeys (p .keys) k) (key-places (viewPlant p) k (kept-parts p h) l))
 
-  pub leaves : Performs (Read z y) p left
+  pub leaves : Shows z y p m → Performs (Read z y) p left
   unfolding viewPlant accepted afterRead
-  leaves h lent i =
+  leaves shows h lent i =
       let e = named p z fz n en y fy k ek h lent in
-      let m = none-held (Read (pos n) (pos k)) lent (chosen (viewPlant p)) (viewPlant p) _ (ap (λ (x : C.Result). x .answer) e) i in
-      rw (ec ∙ same-cache p n k ∙ cache-are p h n k lent m, shared-is h (in-range p h n k lent m) (is-live p h n k lent m)) refl
-      ∙ left-accepted (Read (pos n) (pos k)) lent (chosen (viewPlant p)) (viewPlant p) m
+      let none = none-held (Read (pos n) (pos k)) lent (chosen (viewPlant p)) (viewPlant p) _ (ap (λ (x : C.Result). x .answer) e) i in
+      rw (ec ∙ caches-so p z fz n en y fy k ek m shows ∙ cache-are p h n k lent none, shared-is h (in-range p h n k lent none) (is-live p h n k lent none)) refl
+      ∙ left-accepted (Read (pos n) (pos k)) lent (chosen (viewPlant p)) (viewPlant p) none
       ∙ ap (λ (x : C.Result). x .plant) (sym e)
 
-  pub leaves-form : (storeForm (p .store) ≡ true → cacheForm (p .cache) ≡ true → cacheForm c ≡ true) → (sessionsForm (p .sessions) ≡ true → sessionsForm s ≡ true) → plantForm p ≡ true → plantForm left ≡ true
-  leaves-form fc fs f =
+  pub leaves-form : (cachedForm (m .fields) ≡ true → cacheForm (p .cache) ≡ true → cacheForm c ≡ true) → (sessionsForm (p .sessions) ≡ true → sessionsForm s ≡ true) → cachedForm (m .fields) ≡ true → plantForm p ≡ true → plantForm left ≡ true
+  leaves-form fc fs g f =
       let x = form-parts p f in
-      formed _ (record { store = x .store; keys = x .keys; cache = fc (x .store) (x .cache); sessions = fs (x .sessions); buffer = x .buffer; rows = x .rows; hands = x .hands; queue = x .queue })
+      formed _ (record { store = x .store; keys = x .keys; cache = fc g (x .cache); sessions = fs (x .sessions); buffer = x .buffer; rows = x .rows; hands = x .hands; queue = x .queue })

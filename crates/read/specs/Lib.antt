@@ -1,2 +1,3 @@
--- What a read leaves.
+-- What a read shows and leaves.
+pub mod Shows
 pub mod Left

@@ -1,19 +1,33 @@
 // Read: the fields of a key's places go into the lent words, the session gets shared leases, and the key may be cached.
 ghost use mathlib.Core.Path.{_≡_};
-ghost use mathlib.Core.Bool.{true};
+ghost use mathlib.Core.Bool.{true, false};
 ghost use Rattle.rules.specs.Calls.{Read};
 ghost use Rattle.plant.specs.View.{plantForm, keptPlant};
+ghost use Rattle.cached.specs.Form.{cachedForm};
+ghost use Rattle.answers.specs.View.{viewAnswer, isRefused};
+ghost use Rattle.answers.specs.Own.{isAnswerOf};
 ghost use Rattle.promises.specs.Promise.{result, Answers, Performs};
 ghost use Rattle.read.specs.Left.{left};
+ghost use Rattle.read.specs.Shows.{Shows};
 use answers::Answer;
 use cache::Cache;
 use keys::Keys;
+use marking::Marked;
 use plant::Plant;
 use sessions::Sessions;
 
-pub fn answer(p: Plant, session: i64, key: i64, words: &mut [i32]) -> Answer
-    ensures answers { λ r. ⌜ Answers (Read session key) (now (words .entry)) p r ⌝ }
-    ensures shows { λ r. ⌜ (keptPlant p ≡ true → now (words .exit) ≡ result (Read session key) (now (words .entry)) p .words) ⌝ }
+// What a read answers, and what it shows where it is not refused.
+pub struct Seen {
+    pub answer: Answer,
+    pub shown: Marked,
+}
+
+pub fn ask(p: Plant, session: i64, key: i64, words: &mut [i32]) -> Seen
+    ensures answers { λ r. ⌜ Answers (Read session key) (now (words .entry)) p (r .answer) ⌝ }
+    ensures fills { λ r. ⌜ (keptPlant p ≡ true → now (words .exit) ≡ result (Read session key) (now (words .entry)) p .words) ⌝ }
+    ensures own { λ r. ⌜ isAnswerOf (Read session key) (r .answer) ≡ true ⌝ }
+    ensures shows { λ r. ⌜ (isRefused (viewAnswer (r .answer)) ≡ false → Shows session key p (r .shown)) ⌝ }
+    ensures form { λ r. ⌜ (plantForm p ≡ true → cachedForm (r .shown .fields) ≡ true) ⌝ }
 {
     let store = p.store;
     let keys = p.keys;
@@ -25,12 +39,33 @@ pub fn answer(p: Plant, session: i64, key: i64, words: &mut [i32]) -> Answer
     let k = arguments::index(key, Keys::LIMIT as u8);
     let refusal = turning::refusal(p.near, keys, cache, sessions, buffer, n, k, words.len());
     if refusal.is_refused() {
-        return refusal;
+        let shown = Marked::nothing();
+        return Seen {
+            answer: refusal,
+            shown,
+        };
     }
-    let s = marking::shown(p.near, store, keys, cache, sessions, buffer, rows, n, k);
-    let mark = s.mark;
-    showing::write(s.fields, words);
-    Answer::Read(mark)
+    let shown = marking::shown(p.near, store, keys, cache, sessions, buffer, rows, n, k);
+    let mark = shown.mark;
+    showing::write(shown.fields, words);
+    let answer = Answer::Read(mark);
+    Seen { answer, shown }
+}
+
+// What a read that is not refused shows.
+pub fn shown(p: Plant, session: i64, key: i64) -> Marked
+    ensures shows { λ r. ⌜ Shows session key p r ⌝ }
+    ensures form { λ r. ⌜ (plantForm p ≡ true → cachedForm (r .fields) ≡ true) ⌝ }
+{
+    let store = p.store;
+    let keys = p.keys;
+    let cache = p.cache;
+    let sessions = p.sessions;
+    let buffer = p.buffer;
+    let rows = p.rows;
+    let n = arguments::session(session);
+    let k = arguments::index(key, Keys::LIMIT as u8);
+    marking::shown(p.near, store, keys, cache, sessions, buffer, rows, n, k)
 }
 
 // The tables that the call writes, as it leaves them.
@@ -39,19 +74,16 @@ pub struct Left {
     pub sessions: Sessions,
 }
 
-pub fn after(p: Plant, session: i64, key: i64) -> Left
-    ensures shows { λ r. ⌜ Performs (Read session key) p (left p r) ⌝ }
-    ensures form { λ r. ⌜ (plantForm p ≡ true → plantForm (left p r) ≡ true) ⌝ }
+pub fn after(p: Plant, session: i64, key: i64, shown: Marked) -> Left
+    ensures shows { λ r. ⌜ (Shows session key p shown → Performs (Read session key) p (left p r)) ⌝ }
+    ensures form { λ r. ⌜ (cachedForm (shown .fields) ≡ true → plantForm p ≡ true → plantForm (left p r) ≡ true) ⌝ }
 {
-    let store = p.store;
     let keys = p.keys;
     let cached = p.cache;
     let old = p.sessions;
-    let buffer = p.buffer;
-    let rows = p.rows;
     let n = arguments::session(session);
     let k = arguments::index(key, Keys::LIMIT as u8);
-    let cache = marking::cached(p.near, store, keys, cached, old, buffer, rows, n, k);
+    let cache = marking::cached(cached, shown);
     let sessions = old.shared(n, keys.key(k), p.clock);
     Left { cache, sessions }
 }

@@ -80,7 +80,8 @@ pub fn away(keys: Keys, cache: Cache, buffer: Buffer, own: Changes, key: Key, k:
 
 // The cached key of a number; without fields where it is not cached.
 pub fn found(cache: Cache, k: u8) -> Cached
-    ensures { λ r. ⌜ viewCached r ≡ cachedAt k (viewCache cache) ⌝ }
+    ensures shows { λ r. ⌜ viewCached r ≡ cachedAt k (viewCache cache) ⌝ }
+    ensures form { λ r. ⌜ (cacheForm cache ≡ true → cachedForm r ≡ true) ⌝ }
 {
     let mut i: usize = 0;
     while i < Cache::LIMIT {

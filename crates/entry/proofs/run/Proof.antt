@@ -15,7 +15,10 @@ same-length c = search needs
 
 returns : tie.Need-returns
 returns c =
-    ran _ _ _ _ _ (c .before .before .answer .result) (c .before .before .answer .ensures .0) (c .before .before .answer .ensures .1) (c .after .ensures .0) (c .after .ensures .1 .1)
+    let a = c .before .before .answer .ensures in (
+      ran _ _ _ _ _ (c .before .before .answer .result) (a .0) (a .1 .0) (c .after .ensures .0) (c .after .ensures .1 .1),
+      (a .1 .1, c .after .ensures .1 .0),
+    )
 
 pub run-spec : {M : Type 1} → statement M
 run-spec = tie.close (tie.spec answer-requires after-requires same-length returns)

@@ -40,6 +40,9 @@ after-requires-3 c κs = search needs
 enum-known-c-3 : tie.Need-enum-known-c-3
 enum-known-c-3 c = search needs
 
+shown-requires : tie.Need-shown-requires
+shown-requires c κs = search needs
+
 after-requires-4 : tie.Need-after-requires-4
 after-requires-4 c κs = search needs
 
@@ -116,7 +119,10 @@ returns-3 : tie.Need-returns-3
 returns-3 c = left (c .before .before .before .before .args .p) _ _ (c .before .before .enum-told .given .1) _ (c .before .after3 .ensures)
 
 returns-4 : tie.Need-returns-4
-returns-4 c = left (c .before .before .before .before .before .before .args .p) _ _ (back2 Read _ _ (c .before .before .before .before .c3 .given .1) (search needs) (search needs)) _ (c .before .before .after4 .ensures)
+returns-4 c =
+    let s = c .before .before .before .shown .ensures in
+    let t = c .before .before .after4 .ensures in
+    left (c .before .before .before .before .before .before .before .args .p) _ _ (back2 Read _ _ (c .before .before .before .before .before .c3 .given .1) (search needs) (search needs)) _ (t .0 (s .0), λ f. t .1 (s .1 f) f)
 
 returns-5 : tie.Need-returns-5
 returns-5 c = left (c .before .before .before .before .args .p) _ _ (back5 Change _ _ _ _ _ (c .before .before .c4 .given .1) (search needs) (search needs) (search needs) (search needs) (search needs)) _ (c .after5 .ensures)
@@ -162,6 +168,7 @@ performed-spec =
     enum-told
     after-requires-3
     enum-known-c-3
+    shown-requires
     after-requires-4
     enum-known-c-4
     after-requires-5

@@ -24,17 +24,17 @@ found-requires : tie.Need-found-requires
 found-requires c κs = search needs
 
 returns : tie.Need-returns
-returns c = search (marks-cached, shows-cached, not-true, needs)
+returns c = (search (marks-cached, not-true, needs), (search (shows-cached, not-true, needs), λ g h. c .found .ensures .1 h))
 
 worked-requires : tie.Need-worked-requires
 worked-requires c κs = search needs
 
 returns-2 : tie.Need-returns-2
-returns-2 c = search (marks-own, shows-own, needs)
+returns-2 c = (search (marks-own, needs), (search (shows-own, needs), c .before .worked .ensures .1))
 
 returns-3 : tie.Need-returns-3
 returns-3 c =
-    ⊎-elim (λ w. search (marks-now, shows-now, w .1 .ensures, w .2 .left, needs))
+    ⊎-elim (λ w. (search (marks-now, w .1 .ensures, w .2 .left, needs), (search (shows-now, w .1 .ensures, w .2 .left, needs), c .before .worked .ensures .1)))
     (λ w. absurd (true≢false (sym (not-false _ (w .left)) ∙ c .if3 .left)))
     (c .before .before .if1 .came)
 

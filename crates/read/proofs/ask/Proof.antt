@@ -1,8 +1,11 @@
--- `answer` meets its contract.
-use Rattle.read.proofs.Laws.{turned-away, none-touched, marked, filled}
+-- `ask` meets its contract.
+use mathlib.Core.Path.{refl, sym, _∙_}
+use mathlib.Core.Bool.{true≢false}
+use Rattle.plant.proofs.Formed.{form-parts}
+use Rattle.read.proofs.Laws.{turned-away, none-touched, own-refusal, marked, filled, shown-so}
 use borrow.Author.Needs.{needs}
-use Rattle.read.proofs.answer.Statement.{statement}
-use Rattle.read.proofs.answer.Tie as tie
+use Rattle.read.proofs.ask.Statement.{statement}
+use Rattle.read.proofs.ask.Tie as tie
 
 session-requires : tie.Need-session-requires
 session-requires c κs = search needs
@@ -19,8 +22,14 @@ refusal-requires c κs = search needs
 is-refused-requires : tie.Need-is-refused-requires
 is-refused-requires c κs = search needs
 
+nothing-requires : tie.Need-nothing-requires
+nothing-requires c κs = search needs
+
 returns : tie.Need-returns
-returns c = search (turned-away, none-touched, needs)
+returns c = (
+  search (turned-away, needs),
+  (search (none-touched, needs), (search (own-refusal, needs), (λ h. absurd (true≢false (sym (c .before .if1 .taken) ∙ c .before .before .is-refused .ensures ∙ h)), λ f. c .nothing .ensures))),
+)
 
 shown-requires : tie.Need-shown-requires
 shown-requires c κs = search needs
@@ -32,10 +41,13 @@ same-length : tie.Need-same-length
 same-length c = search needs
 
 returns-2 : tie.Need-returns-2
-returns-2 c = search (marked, filled, needs)
+returns-2 c = (
+  search (marked, needs),
+  (search (filled, needs), (refl, (λ h. search (shown-so, needs), λ f. let x = form-parts _ f in c .before .before .before .shown .ensures .1 .1 (x .store) (x .cache)))),
+)
 
-pub answer-spec : {M : Type 1} → statement M
-answer-spec =
+pub ask-spec : {M : Type 1} → statement M
+ask-spec =
     tie.close
     (tie.spec
     session-requires
@@ -43,6 +55,7 @@ answer-spec =
     index-requires
     refusal-requires
     is-refused-requires
+    nothing-requires
     returns
     shown-requires
     write-requires

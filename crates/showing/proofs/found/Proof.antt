@@ -9,7 +9,7 @@ use Rattle.lists.proofs.Loops.{length-mapped}
 use Rattle.lists.proofs.Views.{Seeking, seek-start, seek-hit, seek-next, seek-end, seek-past}
 use Rattle.cached.specs.View.{viewCached}
 use Rattle.cache.specs.View.{viewCache}
-use Rattle.cache.proofs.CacheLaws.{key-is}
+use Rattle.cache.proofs.CacheLaws.{key-is, entry-form}
 use Rattle.showing.specs.Shown.{cachedAt}
 use Rattle.showing.proofs.found.Statement.{statement}
 use Rattle.showing.proofs.found.Tie as tie
@@ -31,7 +31,7 @@ of-requires : tie.Need-of-requires Inv-loop μ-loop
 of-requires c κs = search needs
 
 returns : tie.Need-returns Inv-loop μ-loop
-returns c = search (seek-end, needs)
+returns c = (search (seek-end, needs), λ f. c .of .ensures .1)
 
 mul-if2 : tie.Need-mul-if2 Inv-loop μ-loop
 mul-if2 c = search needs
@@ -46,7 +46,10 @@ element-copy-out-result : tie.Need-element-copy-out-result Inv-loop μ-loop
 element-copy-out-result c = search needs
 
 returns-2 : tie.Need-returns-2 Inv-loop μ-loop
-returns-2 c = seek-hit (c .before .before .before .before .loop .inv) _ (search needs) (search needs) (key-is _ _) (eq-eqb _ _ (c .before .if2 .taken)) refl
+returns-2 c = (
+  seek-hit (c .before .before .before .before .loop .inv) _ (search needs) (search needs) (key-is _ _) (eq-eqb _ _ (c .before .if2 .taken)) refl,
+  λ f. entry-form _ _ _ (search needs) f,
+)
 
 add-i : tie.Need-add-i Inv-loop μ-loop
 add-i c = search needs
@@ -61,7 +64,7 @@ of-requires-2 : tie.Need-of-requires-2 Inv-loop μ-loop
 of-requires-2 c κs = search needs
 
 returns-3 : tie.Need-returns-3 Inv-loop μ-loop
-returns-3 c = search (seek-past, needs)
+returns-3 c = (search (seek-past, needs), λ f. c .of2 .ensures .1)
 
 pub found-spec : {M : Type 1} → statement M
 found-spec =
