@@ -1,15 +1,12 @@
 // A caller's numbers, any integers, read as what the tables number.
 ghost use mathlib.Core.Path.{_≡_};
-ghost use mathlib.Core.Bool.{cond};
-ghost use Prim.Native.Nat.{suc};
-ghost use Rattle.rules.specs.Limits.{lastSession};
-ghost use Rattle.rules.specs.Values.{below, natOf};
+ghost use Rattle.arguments.specs.Numbers.{indexNumber, sessionNumber};
 
 const LAST_SESSION: u64 = 4294967295;
 
 // The number where it is below the count, else the count.
 pub fn index(z: i64, count: u8) -> u8
-    ensures { λ r. ⌜ r ≡ cond (below z count) (natOf z) count ⌝ }
+    ensures { λ r. ⌜ r ≡ indexNumber z count ⌝ }
 {
     if z < 0 {
         return count;
@@ -23,7 +20,7 @@ pub fn index(z: i64, count: u8) -> u8
 
 // A session's number, 0 where no session can have it.
 pub fn session(z: i64) -> u32
-    ensures { λ r. ⌜ r ≡ cond (below z (suc lastSession)) (natOf z) 0 ⌝ }
+    ensures { λ r. ⌜ r ≡ sessionNumber z ⌝ }
 {
     if z < 0 {
         return 0;

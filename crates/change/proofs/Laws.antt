@@ -25,6 +25,7 @@ use Rattle.rules.specs.Conditions.{goodPlace, goodChange, sessionAt, own, condi
 use Rattle.rules.specs.Step.{step, accepted}
 use Rattle.rules.proofs.Laws.{byCase, and-true, below-is, both}
 use Rattle.rules.proofs.Away.{set-meets}
+use Rattle.arguments.specs.Numbers.{sessionNumber}
 use Rattle.arguments.proofs.Numbers.{held}
 use Rattle.keys.specs.View.{viewPlace, viewKeys}
 use Rattle.keys.specs.declared.Keys.{Keys}
@@ -55,9 +56,9 @@ use Rattle.promises.proofs.Telling.{refuses, accepts}
 use Rattle.requests.specs.View.{refusalAt}
 use Rattle.ending.proofs.Standing.{has-slot, its-session, its-number}
 use Rattle.seeing.specs.Value.{valueBy, value}
-use Rattle.seeing.specs.Sight.{sight}
+use Rattle.seeing.specs.Sight.{sight, sightAway, atHand}
 use Rattle.seeing.proofs.Laws.{value-seen}
-use Rattle.change.specs.Met.{told, laterConditions, laterAnswer}
+use Rattle.change.specs.Met.{told, laterConditions, laterAnswer, foundAnswer}
 
 -- ── whether the field is known ──
 module _ (k : ℕ) (x : Bool) (s : Bool) (es : s ≡ isSet (kindOf k)) where
@@ -147,6 +148,47 @@ module _ (p : Plant) (z d f k v : ℤ) (fd : SFits w64 d) (ff : SFits w64 f) (fk
   pub update-is : goodPlace d f && goodChange k v ≡ true → viewUpdate c ≡ updateOf (placeOf d f) (natOf k) v
   update-is = rw (toZ-ofZ fd, toZ-ofZ ff, toZ-ofZ fk, toZ-ofZ fv) at ec
 
+  good : (c .kind ≡ 0 → ⊥) → goodPlace d f && goodChange k v ≡ true
+  good h = sym good-is ∙ ap not (ne-eqb (c .kind) 0 h)
+
+  -- without the store, of any plant
+  abbrev Found : A.Answer → Type 0
+  Found a = a ≡ foundAnswer z d f k v (atHand p)
+
+  pub found-out : c .kind ≡ 0 → Found (refused outOfRange)
+  unfolding foundAnswer _⇒_
+  found-out h = rw (sym good-is, eq-eqb (c .kind) 0 h) refl
+
+  module _ (h : c .kind ≡ 0 → ⊥) (fz : SFits w64 z) (n : ℕ) (e : n ≡ cond (below (held z) (suc lastSession)) (natOf (held z)) 0)
+      (t : Bool) (et : t ≡ M.hasSlot n (viewSessions (p .sessions))) where
+    number-is : n ≡ sessionNumber z
+    number-is = e ∙ ap sessionNumber (toZ-ofZ fz)
+
+    abbrev Told : ℕ → A.Answer
+    Told i =
+        told (first (
+        (not (goodPlace d f && goodChange k v) ⇒ outOfRange)
+        ∷ (not (M.hasSlot i (viewSessions (p .sessions))) ⇒ noSlot)
+        ∷ (M.session i (viewSessions (p .sessions)) .doomed ⇒ wasDoomed)
+        ∷ laterConditions (atHand p) i (M.session i (viewSessions (p .sessions)) .changes) (updateOf (placeOf d f) (natOf k) v))) (suc (length (M.session i (viewSessions (p .sessions)) .changes)))
+
+    at-number : (a : A.Answer) → a ≡ Told n → Found a
+    unfolding foundAnswer sightAway
+    at-number a h = h ∙ ap Told number-is
+
+    pub found-no-slot : not t ≡ true → Found (refused noSlot)
+    unfolding _⇒_
+    found-no-slot g = at-number (refused noSlot) (rw (good h, sym et, g) refl)
+
+    module _ (g : not t ≡ false) (s : Session) (es : viewSession s ≡ M.session n (viewSessions (p .sessions))) (b : Bool) (eb : b ≡ viewSlot s .session .doomed) where
+      pub found-doomed : b ≡ true → Found (refused wasDoomed)
+      unfolding viewSlot _⇒_
+      found-doomed i = at-number (refused wasDoomed) (rw (good h, sym et, g, sym es, sym eb, i) refl)
+
+      pub found-later : b ≡ false → (r : A.Answer) → r ≡ laterAnswer (sight (p .near) (p .store) (p .keys) (p .cache) (p .sessions) (p .buffer) (p .rows)) n (viewChanges (s .changes)) (viewUpdate c) → p .near ≡ false → Found r
+      unfolding laterAnswer sight sightAway viewSlot viewSession _⇒_
+      found-later i r er a = at-number r (er ∙ rw (good h, sym et, g, sym es, sym eb, i, a, update-is (good h)) refl)
+
   module _ (lent : List ℤ) (kept : keptPlant p ≡ true) where
     abbrev Answered : A.Answer → Type 0
     Answered a = a ≡ result (Change z d f k v) lent p .answer
@@ -157,15 +199,12 @@ module _ (p : Plant) (z d f k v : ℤ) (fd : SFits w64 d) (ff : SFits w64 f) (fk
 
     module _ (h : c .kind ≡ 0 → ⊥) (fz : SFits w64 z) (n : ℕ) (e : n ≡ cond (below (held z) (suc lastSession)) (natOf (held z)) 0)
         (t : Bool) (et : t ≡ M.hasSlot n (viewSessions (p .sessions))) where
-      good : goodPlace d f && goodChange k v ≡ true
-      good = sym good-is ∙ ap not (ne-eqb (c .kind) 0 h)
-
       slot : M.isSlot z (viewSessions (p .sessions)) ≡ t
       slot = has-slot p kept z fz n e t et
 
       pub no-slot : not t ≡ true → Answered (refused noSlot)
       unfolding conditions viewPlant _⇒_
-      no-slot g = refuses (Change z d f k v) lent (chosen (viewPlant p)) (viewPlant p) _ (rw (good, slot, g) refl)
+      no-slot g = refuses (Change z d f k v) lent (chosen (viewPlant p)) (viewPlant p) _ (rw (good h, slot, g) refl)
 
       module _ (g : not t ≡ false) (s : Session) (es : viewSession s ≡ M.session n (viewSessions (p .sessions))) (b : Bool) (eb : b ≡ viewSlot s .session .doomed) where
         its : M.session (natOf z) (viewSessions (p .sessions)) ≡ viewSession s
@@ -177,7 +216,7 @@ module _ (p : Plant) (z d f k v : ℤ) (fd : SFits w64 d) (ff : SFits w64 f) (fk
 
         pub was-doomed : b ≡ true → Answered (refused wasDoomed)
         unfolding conditions viewPlant _⇒_
-        was-doomed i = refuses (Change z d f k v) lent (chosen (viewPlant p)) (viewPlant p) _ (rw (good, slot, g, doomed, i) refl)
+        was-doomed i = refuses (Change z d f k v) lent (chosen (viewPlant p)) (viewPlant p) _ (rw (good h, slot, g, doomed, i) refl)
 
         own-is : own z (viewPlant p) ≡ viewChanges (s .changes)
         unfolding viewSession viewPlant
@@ -185,7 +224,7 @@ module _ (p : Plant) (z d f k v : ℤ) (fd : SFits w64 d) (ff : SFits w64 f) (fk
 
         at-place : inRange (placeOf d f) ≡ true
         at-place =
-            let x = and-true (goodPlace d f) (goodChange k v) good in
+            let x = and-true (goodPlace d f) (goodChange k v) (good h) in
             let y = and-true (below d documentCount) (below f fieldCount) (x .0) in
             both _ _ (lt-ltb (natOf d) documentCount (below-is d documentCount (y .0))) (lt-ltb (natOf f) fieldCount (below-is f fieldCount (y .1)))
 
@@ -196,6 +235,6 @@ module _ (p : Plant) (z d f k v : ℤ) (fd : SFits w64 d) (ff : SFits w64 f) (fk
             ∙ same-answer p n (viewChanges (s .changes)) (viewUpdate c)
             ∙ told-is (Change z d f k v) lent (chosen (viewPlant p)) (viewPlant p) (suc (length (viewChanges (s .changes)))) (rw own-is refl)
             (first (laterConditions (viewPlant p) n (viewChanges (s .changes)) (viewUpdate c)))
-            (rw (good, slot, g, doomed, i, own-is, its-number p kept z fz n e t et g, update-is good)
+            (rw (good h, slot, g, doomed, i, own-is, its-number p kept z fz n e t et g, update-is (good h))
             (as-seen p kept (viewChanges (s .changes)) (updateOf (placeOf d f) (natOf k) v) at-place
             (leb changeLimit (length (viewChanges (s .changes))) ⇒ changesFull) (M.othersExclusive n (natOf d) (viewSessions (p .sessions)) ⇒ exclusiveElsewhere)))

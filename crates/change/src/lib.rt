@@ -1,6 +1,6 @@
 // Change: a session changes a field, under an exclusive lease on its document.
 ghost use mathlib.Core.Path.{_≡_};
-ghost use mathlib.Core.Bool.{true, not, _&&_, _||_};
+ghost use mathlib.Core.Bool.{true, false, not, _&&_, _||_};
 ghost use mathlib.Core.List.{List};
 ghost use lib.IntN.{ℤ};
 ghost use Rattle.rules.specs.Changes.{isSet, kindOf, meets};
@@ -16,8 +16,8 @@ ghost use Rattle.plant.specs.With.{withSessions};
 ghost use Rattle.answers.specs.View.{viewAnswer};
 ghost use Rattle.answers.specs.Own.{isAnswerOf};
 ghost use Rattle.promises.specs.Promise.{Answers, Performs};
-ghost use Rattle.seeing.specs.Sight.{sight};
-ghost use Rattle.change.specs.Met.{told, laterAnswer};
+ghost use Rattle.seeing.specs.Sight.{sight, atHand};
+ghost use Rattle.change.specs.Met.{told, laterAnswer, foundAnswer};
 use answers::Answer;
 use answers::Refusal;
 use buffer::Buffer;
@@ -88,6 +88,7 @@ fn later(
 pub fn answer(p: Plant, session: i64, document: i64, field: i64, kind: i64, value: i64) -> Answer
     ensures answers { λ r. ⌜ ((lent : List ℤ) → Answers (Change session document field kind value) lent p r) ⌝ }
     ensures own { λ r. ⌜ isAnswerOf (Change session document field kind value) r ≡ true ⌝ }
+    ensures away { λ r. ⌜ (p .near ≡ false → viewAnswer r ≡ foundAnswer session document field kind value (atHand p)) ⌝ }
 {
     let keys = p.keys;
     let cache = p.cache;

@@ -1,5 +1,5 @@
 -- What read answers, the words it fills and the plant it leaves, one law for each way out.
-use mathlib.Core.Path.{_≡_, refl, sym, _∙_, ap, ap₂}
+use mathlib.Core.Path.{_≡_, refl, sym, _∙_, ap, ap₂, subst}
 use mathlib.Core.Bool.{Bool, true, false, cond, true≢false}
 use mathlib.Core.Option.{Option, none, some}
 use mathlib.Core.List.{List, [], _∷_, map}
@@ -24,6 +24,7 @@ use Rattle.rules.specs.Step.{accepted, settle, step}
 use Rattle.rules.proofs.Laws.{NoneMet, none-met, not-met}
 use Rattle.rules.proofs.Steps.{step-fine}
 use Rattle.rules.proofs.Away.{key-places}
+use Rattle.arguments.specs.Numbers.{sessionNumber}
 use Rattle.arguments.proofs.Numbers.{held}
 use Rattle.keys.specs.View.{viewKey, viewKeys}
 use Rattle.keys.specs.declared.Key.{Key}
@@ -52,11 +53,11 @@ use Rattle.promises.specs.Promise.{chosen, result, Answers, Performs}
 use Rattle.promises.proofs.Telling.{none-held, left-accepted}
 use Rattle.showing.specs.Shown.{shownIn}
 use Rattle.turning.specs.Told.{told}
-use Rattle.seeing.specs.Sight.{sight, sightAway}
+use Rattle.seeing.specs.Sight.{sight, sightAway, atHand}
 use Rattle.marking.specs.Fields.{ownOf, byMark, shownFields}
 use Rattle.marking.specs.declared.Marked.{Marked}
 use Rattle.marking.proofs.Kept.{shown-is, cache-is}
-use Rattle.read.specs.Shows.{sessionAt, keyAt, Shows}
+use Rattle.read.specs.Shows.{keyAt, Shows, answerBy, wordsBy, foundAnswer, foundWords}
 use Rattle.read.proofs.Named.{named}
 
 -- ── the tables looked at are the plant's ──
@@ -81,10 +82,35 @@ module _ (p : Plant) (n k : ℕ) where
       go C.cachedNow = refl
       go C.ownChange = refl
 
+  -- while the store is away they are found without it
+  away-mark : mark n k looked ≡ mark n k (atHand p)
+  unfolding sight sightAway
+  away-mark = refl
+
+  away-fields : p .near ≡ false → shownFields n k looked ≡ shownFields n k (atHand p)
+  unfolding shownFields sight sightAway
+  away-fields h = go (mark n k (atHand p))
+    where
+      go : (m : C.Mark) → byMark m n k looked ≡ byMark m n k (atHand p)
+      go C.fromCache = refl
+      go C.cachedNow = rw h refl
+      go C.ownChange = rw h refl
+
+-- ── the numbers that the code finds are those that the caller's stand for ──
+session-is : (z : ℤ) → SFits w64 z → (n : ℕ) → n ≡ sessionNumber (held z) → n ≡ sessionNumber z
+session-is z fz n en = en ∙ ap sessionNumber (toZ-ofZ fz)
+
+key-is : (y : ℤ) → SFits w64 y → (k : ℕ) → k ≡ keyAt (held y) → k ≡ keyAt y
+key-is y fy k ek = ek ∙ ap keyAt (toZ-ofZ fy)
+
 -- ── what a refusal, or none, says of the step ──
 told-refused : (o : Option Refusal) (c : Call) (lent : List ℤ) (pick : Pick) (p : M.Plant) → isRefused (told o) ≡ true → (told o ≡ settle o c lent pick p .answer) × (lent ≡ settle o c lent pick p .words)
 told-refused none c lent pick p h = absurd (true≢false (sym h))
 told-refused (some r) c lent pick p h = (refl, refl)
+
+told-found : (o : Option Refusal) (m : C.Mark) (fs : List S.Field) (lent : List ℤ) → isRefused (told o) ≡ true → (told o ≡ answerBy o m) × (lent ≡ wordsBy o fs lent)
+told-found none m fs lent h = absurd (true≢false (sym h))
+told-found (some r) m fs lent h = (refl, refl)
 
 told-none : (o : Option Refusal) → isRefused (told o) ≡ false → o ≡ none
 told-none none h = refl
@@ -129,7 +155,24 @@ module _ (p : Plant) (z : ℤ) (fz : SFits w64 z) (n : ℕ) (en : n ≡ cond (be
   is-told : isRefused (told (first (conditions (Read (pos n) (pos k)) lent (viewPlant p)))) ≡ r
   is-told = ap isRefused (sym as-told) ∙ sym er
 
+  -- what is found without the store, at these numbers
+  abbrev met : Option Refusal
+  met = first (conditions (Read (pos n) (pos k)) lent (atHand p))
+
+  met-is : isRefused (told met) ≡ r
+  met-is = ap isRefused (sym (ea lent refl)) ∙ sym er
+
+  abbrev Found : C.Answer → List ℤ → ℕ → ℕ → Type 0
+  Found b ws i j = (b ≡ answerBy (first (conditions (Read (pos i) (pos j)) lent (atHand p))) (mark i j (atHand p))) × (ws ≡ wordsBy (first (conditions (Read (pos i) (pos j)) lent (atHand p))) (shownFields i j (atHand p)) lent)
+
+  found : (b : C.Answer) (ws : List ℤ) → Found b ws n k → (b ≡ foundAnswer z y lent (atHand p)) × (ws ≡ foundWords z y lent (atHand p))
+  unfolding foundAnswer foundWords
+  found b ws h = subst (Found b ws (sessionNumber z)) (key-is y fy k ek) (subst (λ i. Found b ws i k) (session-is z fz n en) h)
+
   module _ (t : r ≡ true) where
+    pub turned-found : p .near ≡ false → (viewAnswer a ≡ foundAnswer z y lent (atHand p)) × (lent ≡ foundWords z y lent (atHand p))
+    turned-found h = let x = told-found met (mark n k (atHand p)) (shownFields n k (atHand p)) lent (met-is ∙ t) in found (viewAnswer a) lent (ea lent refl ∙ x .0, x .1)
+
     turned : (viewAnswer a ≡ result (Read (pos n) (pos k)) lent p .answer) × (lent ≡ result (Read (pos n) (pos k)) lent p .words)
     unfolding step
     turned =
@@ -143,6 +186,12 @@ module _ (p : Plant) (z : ℤ) (fz : SFits w64 z) (n : ℕ) (en : n ≡ cond (be
     none-touched h = turned .1 ∙ ap (λ (x : C.Result). x .words) (sym (named p z fz n en y fy k ek h lent))
 
   module _ (t : r ≡ false) where
+    pub shown-found : (m : Mark) → viewMark m ≡ mark n k (looked p n k) → (c : Cached) (ws : List ℤ) → viewCached c ≡ record { key = k; fields = shownFields n k (looked p n k) } → ws ≡ shownIn (viewCached c .fields) lent → p .near ≡ false
+        → (fine (markNumber (viewMark m) ∷ []) ≡ foundAnswer z y lent (atHand p)) × (ws ≡ foundWords z y lent (atHand p))
+    shown-found m em c ws ec ew h =
+        let none : met ≡ none = told-none met (met-is ∙ t) in
+        found (fine (markNumber (viewMark m) ∷ [])) ws (rw none (ap (λ (x : C.Mark). fine (markNumber x ∷ [])) (em ∙ away-mark p n k)), rw none (ew ∙ ap (λ fs. shownIn fs lent) (ap (λ (x : M.Cached). x .fields) ec ∙ away-fields p n k h)))
+
     none-meets : NoneMet (conditions (Read (pos n) (pos k)) lent (viewPlant p))
     none-meets = none-met (conditions (Read (pos n) (pos k)) lent (viewPlant p)) (told-none (first (conditions (Read (pos n) (pos k)) lent (viewPlant p))) (is-told ∙ t))
 
@@ -159,20 +208,14 @@ module _ (p : Plant) (z : ℤ) (fz : SFits w64 z) (n : ℕ) (en : n ≡ cond (be
 -- ── what it shows ──
 module _ (p : Plant) (z : ℤ) (fz : SFits w64 z) (n : ℕ) (en : n ≡ cond (below (held z) (suc lastSession)) (natOf (held z)) 0)
     (y : ℤ) (fy : SFits w64 y) (k : ℕ) (ek : k ≡ cond (below (held y) keyCount) (natOf (held y)) keyCount) where
-  session-is : n ≡ sessionAt z
-  session-is = en ∙ ap sessionAt (toZ-ofZ fz)
-
-  key-is : k ≡ keyAt y
-  key-is = ek ∙ ap keyAt (toZ-ofZ fy)
-
   pub shown-so : (m : Marked) → viewMark (m .mark) ≡ mark n k (looked p n k) → viewCached (m .fields) ≡ record { key = k; fields = shownFields n k (looked p n k) } → Shows z y p m
-  shown-so m em ef = (em ∙ same-mark p n k ∙ ap₂ (λ a b. mark a b (viewPlant p)) session-is key-is, ef ∙ ap (λ fs. record { key = k; fields = fs }) (same-fields p n k) ∙ ap₂ (λ a b. record { key = b; fields = shownFields a b (viewPlant p) }) session-is key-is)
+  shown-so m em ef = (em ∙ same-mark p n k ∙ ap₂ (λ a b. mark a b (viewPlant p)) (session-is z fz n en) (key-is y fy k ek), ef ∙ ap (λ fs. record { key = k; fields = fs }) (same-fields p n k) ∙ ap₂ (λ a b. record { key = b; fields = shownFields a b (viewPlant p) }) (session-is z fz n en) (key-is y fy k ek))
 
   caches-so : (m : Marked) → Shows z y p m → cacheBy (viewMark (m .mark)) 0 (viewCached (m .fields)) (viewCache (p .cache)) ≡ cacheBy (mark n k (viewPlant p)) 0 (record { key = k; fields = shownFields n k (viewPlant p) }) (viewCache (p .cache))
   caches-so m s =
       ap₂ (λ x c. cacheBy x 0 c (viewCache (p .cache)))
-      (s .0 ∙ sym (ap₂ (λ a b. mark a b (viewPlant p)) session-is key-is))
-      (s .1 ∙ sym (ap₂ (λ a b. record { key = b; fields = shownFields a b (viewPlant p) }) session-is key-is))
+      (s .0 ∙ sym (ap₂ (λ a b. mark a b (viewPlant p)) (session-is z fz n en) (key-is y fy k ek)))
+      (s .1 ∙ sym (ap₂ (λ a b. record { key = b; fields = shownFields a b (viewPlant p) }) (session-is z fz n en) (key-is y fy k ek)))
 
 -- ── the plant left ──
 module _ (p : Plant) (z : ℤ) (fz : SFits w64 z) (y : ℤ) (fy : SFits w64 y)

@@ -14,6 +14,7 @@ use Rattle.buffer.specs.View.{viewBuffer}
 use Rattle.buffer.specs.declared.Buffer.{Buffer}
 use Rattle.rows.specs.View.{viewRows}
 use Rattle.rows.specs.declared.Rows.{Rows}
+use Rattle.plant.specs.declared.Plant.{Plant}
 
 unfoldable pub sight : Bool → Store → Keys → Cache → Sessions → Buffer → Rows → M.Plant
 sight near store keys cache sessions buffer rows =
@@ -47,3 +48,7 @@ sightAway near keys cache sessions buffer =
       near = near;
       next = setup .next;
     }
+
+-- what is at hand of a plant while its store is away
+abbrev pub atHand : Plant → M.Plant
+atHand p = sightAway (p .near) (p .keys) (p .cache) (p .sessions) (p .buffer)

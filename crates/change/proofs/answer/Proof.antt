@@ -1,5 +1,5 @@
 -- `answer` meets its contract.
-use Rattle.change.proofs.Laws.{out-of-range, no-slot, was-doomed, meeting}
+use Rattle.change.proofs.Laws.{out-of-range, no-slot, was-doomed, meeting, found-out, found-no-slot, found-doomed, found-later}
 use mathlib.Core.Path.{refl}
 use borrow.Author.Needs.{needs}
 use Rattle.change.proofs.answer.Statement.{statement}
@@ -9,7 +9,7 @@ update-requires : tie.Need-update-requires
 update-requires c κs = search needs
 
 returns : tie.Need-returns
-returns c = search (out-of-range, refl, needs)
+returns c = (search (out-of-range, needs), (refl, λ h. search (found-out, needs)))
 
 session-requires : tie.Need-session-requires
 session-requires c κs = search needs
@@ -18,7 +18,7 @@ has-requires : tie.Need-has-requires
 has-requires c κs = search needs
 
 returns-2 : tie.Need-returns-2
-returns-2 c = search (no-slot, refl, needs)
+returns-2 c = (search (no-slot, needs), (refl, λ h. search (found-no-slot, needs)))
 
 session-requires-2 : tie.Need-session-requires-2
 session-requires-2 c κs = search needs
@@ -27,13 +27,13 @@ is-doomed-requires : tie.Need-is-doomed-requires
 is-doomed-requires c κs = search needs
 
 returns-3 : tie.Need-returns-3
-returns-3 c = search (was-doomed, refl, needs)
+returns-3 c = (search (was-doomed, needs), (refl, λ h. search (found-doomed, needs)))
 
 later-requires : tie.Need-later-requires
 later-requires c κs = search needs
 
 returns-4 : tie.Need-returns-4
-returns-4 c = (search (meeting, needs), c .later .ensures .1 _ _ _ _ _)
+returns-4 c = (search (meeting, needs), (c .later .ensures .1 _ _ _ _ _, λ h. search (found-later, needs)))
 
 pub answer-spec : {M : Type 1} → statement M
 answer-spec =

@@ -35,7 +35,7 @@ returns c =
 returns-2 : tie.Need-returns-2
 returns-2 c =
     let e = back5 Change _ _ _ _ _ (c .before .before .c2 .given .1) (search needs) (search needs) (search needs) (search needs) (search needs) in
-    let x = fills-none (c .before .before .before .before .args .p) _ _ e _ _ (c .answer .result) refl (λ h. h) (c .answer .ensures .0 _) in (x .0, (x .1, own _ _ e (c .answer .result) (c .answer .ensures .1)))
+    let x = fills-none (c .before .before .before .before .args .p) _ _ e _ _ (c .answer .result) refl (λ h. h) (c .answer .ensures .0 _) in (x .0, (x .1, own _ _ e (c .answer .result) (c .answer .ensures .1 .0)))
 
 returns-3 : tie.Need-returns-3
 returns-3 c =

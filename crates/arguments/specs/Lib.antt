@@ -1,0 +1,2 @@
+-- The numbers that a caller's stand for.
+pub mod Numbers
