@@ -132,21 +132,6 @@ impl Sessions {
         0
     }
 
-    // One more, if there is room.
-    pub fn push(self, s: Session) -> Self
-        ensures shows { λ r. ⌜ viewSessions r ≡ pushed slotLimit (viewSessions self) (viewSlot s) ⌝ }
-        ensures form { λ r. ⌜ (sessionForm s ≡ true → sessionsForm self ≡ true → sessionsForm r ≡ true) ⌝ }
-    {
-        let at = self.count as usize;
-        if Self::LIMIT <= at {
-            return self;
-        }
-        let mut t = self;
-        t.slots[at] = s;
-        t.count = self.count + 1;
-        t
-    }
-
     // The slot of n is free.
     pub fn freed(self, n: u32) -> Self
         ensures shows { λ r. ⌜ viewSessions r ≡ freed n (viewSessions self) ⌝ }
@@ -179,12 +164,20 @@ impl Sessions {
         self.freed(self.first_doomed())
     }
 
-    // A new session of a number, in a slot that is free or whose session is doomed.
+    // A new session of a number, in a slot that is free or whose session is doomed: none where there is no such slot.
     pub fn begun(self, number: u32, clock: u64) -> Self
         ensures shows { λ r. ⌜ viewSessions r ≡ pushed slotLimit (room (viewSessions self)) (opened number clock) ⌝ }
         ensures form { λ r. ⌜ (sessionsForm self ≡ true → sessionsForm r ≡ true) ⌝ }
     {
-        self.room().push(Session::opened(number, clock))
+        let s = Session::opened(number, clock);
+        let mut t = self.room();
+        let at = t.count as usize;
+        if Self::LIMIT <= at {
+            return t;
+        }
+        t.slots[at] = s;
+        t.count = t.count + 1;
+        t
     }
 
     // After a change of session n: it has the lease and the change, and the other holders are doomed.
