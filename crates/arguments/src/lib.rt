@@ -2,7 +2,7 @@
 ghost use mathlib.Core.Path.{_≡_};
 ghost use Rattle.arguments.specs.Numbers.{indexNumber, sessionNumber};
 
-const LAST_SESSION: u64 = 4294967295;
+pub const LAST_SESSION: u64 = 4294967295;
 
 // The number where it is below the count, else the count.
 pub fn index(z: i64, count: u8) -> u8

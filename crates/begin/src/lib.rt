@@ -18,8 +18,6 @@ use answers::Refusal;
 use plant::Plant;
 use sessions::Sessions;
 
-const LAST_SESSION: u64 = 4294967295;
-
 // Every slot is taken, and by a session that is not doomed.
 fn is_full(t: Sessions) -> bool
     ensures { λ r. ⌜ r ≡ leb slotLimit (length (viewSessions t)) && not (any (λ s. (s .session) .doomed) (viewSessions t)) ⌝ }
@@ -36,7 +34,7 @@ pub fn answer(p: Plant) -> Answer
     ensures own { λ r. ⌜ isAnswerOf Begin r ≡ true ⌝ }
 {
     let number = p.next;
-    if LAST_SESSION < number {
+    if arguments::LAST_SESSION < number {
         return Answer::Refused(Refusal::NumbersSpent);
     }
     if is_full(p.sessions) {
@@ -57,7 +55,7 @@ pub fn after(p: Plant) -> Left
 {
     let next = p.next;
     let sessions = p.sessions;
-    if LAST_SESSION < next {
+    if arguments::LAST_SESSION < next {
         return Left { sessions, next };
     }
     let sessions = sessions.begun(next as u32, p.clock);

@@ -34,9 +34,9 @@ pub fn is_set(kind: u8) -> bool
 }
 
 impl Update {
-    pub const SET: u8 = 1;
+    pub const SET: u8 = field::SET;
 
-    pub const UNSET: u8 = 2;
+    pub const UNSET: u8 = field::UNSET;
 
     pub fn empty() -> Self
         ensures { λ r. ⌜ isUnused r ≡ true ⌝ }

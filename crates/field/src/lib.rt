@@ -39,9 +39,9 @@ impl Applied {
 }
 
 // The changes by their numbers. A pull has the last one, and any other is taken for it.
-const SET: u8 = 1;
+pub const SET: u8 = 1;
 
-const UNSET: u8 = 2;
+pub const UNSET: u8 = 2;
 
 const INC: u8 = 3;
 
@@ -50,9 +50,9 @@ const ADD: u8 = 4;
 const PUSH: u8 = 5;
 
 // The ends of a number's range.
-const LOWEST: i64 = -2147483648;
+pub const LOWEST: i64 = -2147483648;
 
-const HIGHEST: i64 = 2147483647;
+pub const HIGHEST: i64 = 2147483647;
 
 // Where the kind, the count and the first value stand among a field's words.
 const KIND_AT: usize = 0;

@@ -20,6 +20,8 @@ pub struct Place {
 }
 
 impl Place {
+    pub const FIELDS: u8 = 4;
+
     pub fn empty() -> Self
         ensures shows { λ r. ⌜ viewPlace r ≡ noPlace ⌝ }
         ensures form { λ r. ⌜ isBlank r ≡ true ⌝ }

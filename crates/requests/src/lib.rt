@@ -17,24 +17,15 @@ use field::Applied;
 use field::Field;
 use keys::Place;
 
-const DOCUMENTS: u8 = 64;
-
-const FIELDS: u8 = 4;
-
 const LAST_KIND: u8 = 6;
-
-// The ends of a number's range.
-const LOWEST: i64 = -2147483648;
-
-const HIGHEST: i64 = 2147483647;
 
 // The place of two numbers; where there is none, one that is not within the stock.
 pub fn place(document: i64, field: i64) -> Place
     ensures within { λ r. ⌜ inRange (viewPlace r) ≡ goodPlace document field ⌝ }
     ensures shows { λ r. ⌜ (goodPlace document field ≡ true → viewPlace r ≡ placeOf document field) ⌝ }
 {
-    let d = arguments::index(document, DOCUMENTS);
-    let f = arguments::index(field, FIELDS);
+    let d = arguments::index(document, docset::DOCUMENTS);
+    let f = arguments::index(field, Place::FIELDS);
     Place {
         document: d,
         field: f,
@@ -44,8 +35,8 @@ pub fn place(document: i64, field: i64) -> Place
 pub fn is_within(q: Place) -> bool
     ensures { λ r. ⌜ r ≡ inRange (viewPlace q) ⌝ }
 {
-    if q.document < DOCUMENTS {
-        return q.field < FIELDS;
+    if q.document < docset::DOCUMENTS {
+        return q.field < Place::FIELDS;
     }
     false
 }
@@ -68,10 +59,10 @@ fn is_value(kind: u8, z: i64) -> bool
     if kind == Update::UNSET {
         return z == 0;
     }
-    if z < LOWEST {
+    if z < field::LOWEST {
         return false;
     }
-    z <= HIGHEST
+    z <= field::HIGHEST
 }
 
 // The change of four numbers, the empty one (its kind is 0) where one of them is out of its range.

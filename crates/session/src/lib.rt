@@ -53,7 +53,7 @@ pub struct Session {
 }
 
 impl Session {
-    pub const DOCUMENTS: usize = 64;
+    pub const DOCUMENTS: usize = docset::DOCUMENTS as usize;
 
     pub const LEASE_TICKS: u64 = 300;
 

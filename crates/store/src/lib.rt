@@ -36,9 +36,9 @@ fn index_of(q: Place) -> usize
 }
 
 impl Store {
-    pub const DOCUMENTS: usize = 64;
+    pub const DOCUMENTS: usize = docset::DOCUMENTS as usize;
 
-    pub const FIELDS: usize = 4;
+    pub const FIELDS: usize = Place::FIELDS as usize;
 
     pub const LIMIT: usize = Store::DOCUMENTS * Store::FIELDS;
 
