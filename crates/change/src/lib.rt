@@ -86,9 +86,9 @@ fn later(
 }
 
 pub fn answer(p: Plant, session: i64, document: i64, field: i64, kind: i64, value: i64) -> Answer
+    ensures away { λ r. ⌜ (p .near ≡ false → viewAnswer r ≡ foundAnswer session document field kind value (atHand p)) ⌝ }
     ensures answers { λ r. ⌜ ((lent : List ℤ) → Answers (Change session document field kind value) lent p r) ⌝ }
     ensures own { λ r. ⌜ isAnswerOf (Change session document field kind value) r ≡ true ⌝ }
-    ensures away { λ r. ⌜ (p .near ≡ false → viewAnswer r ≡ foundAnswer session document field kind value (atHand p)) ⌝ }
 {
     let keys = p.keys;
     let cache = p.cache;

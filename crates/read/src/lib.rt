@@ -24,10 +24,10 @@ pub struct Seen {
 }
 
 pub fn ask(p: Plant, session: i64, key: i64, words: &mut [i32]) -> Seen
+    ensures away { λ r. ⌜ (p .near ≡ false → (viewAnswer (r .answer) ≡ foundAnswer session key (now (words .entry)) (atHand p)) × (now (words .exit) ≡ foundWords session key (now (words .entry)) (atHand p))) ⌝ }
     ensures answers { λ r. ⌜ Answers (Read session key) (now (words .entry)) p (r .answer) ⌝ }
     ensures fills { λ r. ⌜ (keptPlant p ≡ true → now (words .exit) ≡ result (Read session key) (now (words .entry)) p .words) ⌝ }
     ensures own { λ r. ⌜ isAnswerOf (Read session key) (r .answer) ≡ true ⌝ }
-    ensures away { λ r. ⌜ (p .near ≡ false → (viewAnswer (r .answer) ≡ foundAnswer session key (now (words .entry)) (atHand p)) × (now (words .exit) ≡ foundWords session key (now (words .entry)) (atHand p))) ⌝ }
     ensures shows { λ r. ⌜ (isRefused (viewAnswer (r .answer)) ≡ false → Shows session key p (r .shown)) ⌝ }
     ensures form { λ r. ⌜ (plantForm p ≡ true → cachedForm (r .shown .fields) ≡ true) ⌝ }
 {

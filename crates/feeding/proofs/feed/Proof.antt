@@ -185,8 +185,8 @@ plant c = server (line c .before) .plant
 
 question : (c : Answered) → Asked (c .before .before .before .before .before .before .heard .result) (plant c) (c .match2 .c) (c .match2 .a) (c .match2 .words) (c .match2 .shown)
 question c =
-    ⊎-elim (λ w. asked-read _ (plant c) _ _ _ _ _ (c .before .before .before .said .given .1) (w .7 ∙ sym (w .1 .given .1)) _ _ _ _ (back2 Read _ _ (w .1 .given .1) (search needs) (search needs)) (w .8) (w .10) (w .9) (w .4 .ensures .0) (w .4 .ensures .1 .0) (w .4 .ensures .1 .1 .1 .1 .0) (w .4 .ensures .1 .1 .1 .1 .1))
-    (⊎-elim (λ w. asked-change _ (plant c) _ _ _ _ _ (c .before .before .before .said .given .1) (w .4 ∙ sym (w .1 .given .1)) _ (w .5) (w .6) (c .before .nothing .ensures) _ (w .7) _ _ _ _ _ (back5 Change _ _ _ _ _ (w .1 .given .1) (search needs) (search needs) (search needs) (search needs) (search needs)) (w .3 .ensures .0))
+    ⊎-elim (λ w. asked-read _ (plant c) _ _ _ _ _ (c .before .before .before .said .given .1) (w .7 ∙ sym (w .1 .given .1)) _ _ _ _ (back2 Read _ _ (w .1 .given .1) (search needs) (search needs)) (w .8) (w .10) (w .9) (w .4 .ensures .1 .0) (w .4 .ensures .1 .1 .0) (w .4 .ensures .1 .1 .1 .1 .0) (w .4 .ensures .1 .1 .1 .1 .1))
+    (⊎-elim (λ w. asked-change _ (plant c) _ _ _ _ _ (c .before .before .before .said .given .1) (w .4 ∙ sym (w .1 .given .1)) _ (w .5) (w .6) (c .before .nothing .ensures) _ (w .7) _ _ _ _ _ (back5 Change _ _ _ _ _ (w .1 .given .1) (search needs) (search needs) (search needs) (search needs) (search needs)) (w .3 .ensures .1 .0))
     (λ w. asked-plain _ (plant c) _ _ _ _ _ (c .before .before .before .said .given .1) (w .2) _ (w .3) (w .4) (c .before .nothing .ensures) _ (w .5) (not-seeing (c .before .before .before .said .given .0 .0) (w .0 .keys3)) (w .1 .ensures .0))) (c .match2 .came)
 
 -- ── and printed ──
