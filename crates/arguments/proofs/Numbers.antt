@@ -12,6 +12,7 @@ use mir.Facts.{toZ-ofZ}
 use borrow.Author.Tests.{lt-ltb, le-ltb, ltb-true, ltb-false}
 use Rattle.rules.proofs.Laws.{byCase}
 use Rattle.rules.specs.Values.{below, natOf}
+use Rattle.arguments.specs.Numbers.{sessionNumber, indexNumber}
 
 abbrev pub held : ℤ → ℤ
 held z = toZ w64 (ofZ w64 z)
@@ -45,6 +46,10 @@ module _ (z : ℤ) (w : SFits w64 z) where
 
   pub gives-past : (k other : ℕ) → ltZ (held z) (pos 0) ≡ false → k ≤ natAbs (held z) → other ≡ cond (below z k) (natOf z) other
   gives-past k other h l = large-out z k other (rw (toZ-ofZ w) at h) (rw (toZ-ofZ w) at l)
+      -- what a caller of `session` learns
+
+  pub session-is : (n : ℕ) → n ≡ sessionNumber (held z) → n ≡ sessionNumber z
+  session-is n e = e ∙ ap sessionNumber (toZ-ofZ w)
 
 -- ── what a caller of `index` learns ──
 found : (z : ℤ) (k : ℕ) → cond (below z k) (natOf z) k < k → (below z k ≡ true) × (cond (below z k) (natOf z) k ≡ natOf z)
@@ -63,24 +68,24 @@ missed (pos n) k l = go (ltb n k) (ltb-true n k) l
     go false e h = refl
 missed (negsuc n) k l = refl
 
-module _ (z : ℤ) (w : SFits w64 z) (k r : ℕ) (e : r ≡ cond (below (held z) k) (natOf (held z)) k) where
-  at : r ≡ cond (below z k) (natOf z) k
-  at = e ∙ ap (λ (y : ℤ). cond (below y k) (natOf y) k) (toZ-ofZ w)
+module _ (z : ℤ) (w : SFits w64 z) (k r : ℕ) (e : r ≡ indexNumber (held z) k) where
+  pub indexed-is : r ≡ indexNumber z k
+  indexed-is = e ∙ ap (λ (y : ℤ). indexNumber y k) (toZ-ofZ w)
 
   pub outside : k ≤ r → below z k ≡ false
-  outside l = missed z k (rw at at l)
+  outside l = missed z k (rw indexed-is at l)
 
   pub inside : r < k → below z k ≡ true
-  inside l = (found z k (rw at at l)) .0
+  inside l = (found z k (rw indexed-is at l)) .0
 
   pub inside-is : r < k → natOf z ≡ r
-  inside-is l = sym (at ∙ (found z k (rw at at l)) .1)
+  inside-is l = sym (indexed-is ∙ (found z k (rw indexed-is at l)) .1)
 
   pub index-is : below z k ≡ true → natOf z ≡ r
-  index-is h = sym (at ∙ rw h refl)
+  index-is h = sym (indexed-is ∙ rw h refl)
 
   pub index-lt : below z k ≡ true → ltb r k ≡ true
-  index-lt h = go z h (at ∙ rw h refl)
+  index-lt h = go z h (indexed-is ∙ rw h refl)
     where
       go : (y : ℤ) → below y k ≡ true → r ≡ natOf y → ltb r k ≡ true
       go (pos n) b q = ap (λ (m : ℕ). ltb m k) q ∙ b

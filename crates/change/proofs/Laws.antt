@@ -25,8 +25,7 @@ use Rattle.rules.specs.Conditions.{goodPlace, goodChange, sessionAt, own, condi
 use Rattle.rules.specs.Step.{step, accepted}
 use Rattle.rules.proofs.Laws.{byCase, and-true, below-is, both}
 use Rattle.rules.proofs.Away.{set-meets}
-use Rattle.arguments.specs.Numbers.{sessionNumber}
-use Rattle.arguments.proofs.Numbers.{held}
+use Rattle.arguments.proofs.Numbers.{held, session-is}
 use Rattle.keys.specs.View.{viewPlace, viewKeys}
 use Rattle.keys.specs.declared.Keys.{Keys}
 use Rattle.field.specs.View.{viewField, refusalOf}
@@ -161,9 +160,6 @@ module _ (p : Plant) (z d f k v : ℤ) (fd : SFits w64 d) (ff : SFits w64 f) (fk
 
   module _ (h : c .kind ≡ 0 → ⊥) (fz : SFits w64 z) (n : ℕ) (e : n ≡ cond (below (held z) (suc lastSession)) (natOf (held z)) 0)
       (t : Bool) (et : t ≡ M.hasSlot n (viewSessions (p .sessions))) where
-    number-is : n ≡ sessionNumber z
-    number-is = e ∙ ap sessionNumber (toZ-ofZ fz)
-
     abbrev Told : ℕ → A.Answer
     Told i =
         told (first (
@@ -174,7 +170,7 @@ module _ (p : Plant) (z d f k v : ℤ) (fd : SFits w64 d) (ff : SFits w64 f) (fk
 
     at-number : (a : A.Answer) → a ≡ Told n → Found a
     unfolding foundAnswer sightAway
-    at-number a h = h ∙ ap Told number-is
+    at-number a h = h ∙ ap Told (session-is z fz n e)
 
     pub found-no-slot : not t ≡ true → Found (refused noSlot)
     unfolding _⇒_

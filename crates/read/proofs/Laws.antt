@@ -8,7 +8,6 @@ use lib.IntN.{ℤ, pos}
 use lib.ListN.{length, length-map}
 use mir.Syntax.{w64}
 use mir.Val.{SFits}
-use mir.Facts.{toZ-ofZ}
 use borrow.Author.Tests.{not-false, ltb-true, ltb-false, le-leb}
 use Rattle.rules.specs.Limits.{keyCount, lastSession, wordsPerField}
 use Rattle.rules.specs.Values.{below, natOf}
@@ -25,7 +24,7 @@ use Rattle.rules.proofs.Laws.{NoneMet, none-met, not-met}
 use Rattle.rules.proofs.Steps.{step-fine}
 use Rattle.rules.proofs.Away.{key-places}
 use Rattle.arguments.specs.Numbers.{sessionNumber}
-use Rattle.arguments.proofs.Numbers.{held}
+use Rattle.arguments.proofs.Numbers.{held, session-is, indexed-is}
 use Rattle.keys.specs.View.{viewKey, viewKeys}
 use Rattle.keys.specs.declared.Key.{Key}
 use Rattle.session.specs.View.{within, withSharedAt}
@@ -57,7 +56,7 @@ use Rattle.seeing.specs.Sight.{sight, sightAway, atHand}
 use Rattle.marking.specs.Fields.{ownOf, byMark, shownFields}
 use Rattle.marking.specs.declared.Marked.{Marked}
 use Rattle.marking.proofs.Kept.{shown-is, cache-is}
-use Rattle.read.specs.Shows.{keyAt, Shows, answerBy, wordsBy, foundAnswer, foundWords}
+use Rattle.read.specs.Shows.{Shows, answerBy, wordsBy, foundAnswer, foundWords}
 use Rattle.read.proofs.Named.{named}
 
 -- ── the tables looked at are the plant's ──
@@ -95,13 +94,6 @@ module _ (p : Plant) (n k : ℕ) where
       go C.fromCache = refl
       go C.cachedNow = rw h refl
       go C.ownChange = rw h refl
-
--- ── the numbers that the code finds are those that the caller's stand for ──
-session-is : (z : ℤ) → SFits w64 z → (n : ℕ) → n ≡ sessionNumber (held z) → n ≡ sessionNumber z
-session-is z fz n en = en ∙ ap sessionNumber (toZ-ofZ fz)
-
-key-is : (y : ℤ) → SFits w64 y → (k : ℕ) → k ≡ keyAt (held y) → k ≡ keyAt y
-key-is y fy k ek = ek ∙ ap keyAt (toZ-ofZ fy)
 
 -- ── what a refusal, or none, says of the step ──
 told-refused : (o : Option Refusal) (c : Call) (lent : List ℤ) (pick : Pick) (p : M.Plant) → isRefused (told o) ≡ true → (told o ≡ settle o c lent pick p .answer) × (lent ≡ settle o c lent pick p .words)
@@ -167,7 +159,7 @@ module _ (p : Plant) (z : ℤ) (fz : SFits w64 z) (n : ℕ) (en : n ≡ cond (be
 
   found : (b : C.Answer) (ws : List ℤ) → Found b ws n k → (b ≡ foundAnswer z y lent (atHand p)) × (ws ≡ foundWords z y lent (atHand p))
   unfolding foundAnswer foundWords
-  found b ws h = subst (Found b ws (sessionNumber z)) (key-is y fy k ek) (subst (λ i. Found b ws i k) (session-is z fz n en) h)
+  found b ws h = subst (Found b ws (sessionNumber z)) (indexed-is y fy keyCount k ek) (subst (λ i. Found b ws i k) (session-is z fz n en) h)
 
   module _ (t : r ≡ true) where
     pub turned-found : p .near ≡ false → (viewAnswer a ≡ foundAnswer z y lent (atHand p)) × (lent ≡ foundWords z y lent (atHand p))
@@ -209,13 +201,13 @@ module _ (p : Plant) (z : ℤ) (fz : SFits w64 z) (n : ℕ) (en : n ≡ cond (be
 module _ (p : Plant) (z : ℤ) (fz : SFits w64 z) (n : ℕ) (en : n ≡ cond (below (held z) (suc lastSession)) (natOf (held z)) 0)
     (y : ℤ) (fy : SFits w64 y) (k : ℕ) (ek : k ≡ cond (below (held y) keyCount) (natOf (held y)) keyCount) where
   pub shown-so : (m : Marked) → viewMark (m .mark) ≡ mark n k (looked p n k) → viewCached (m .fields) ≡ record { key = k; fields = shownFields n k (looked p n k) } → Shows z y p m
-  shown-so m em ef = (em ∙ same-mark p n k ∙ ap₂ (λ a b. mark a b (viewPlant p)) (session-is z fz n en) (key-is y fy k ek), ef ∙ ap (λ fs. record { key = k; fields = fs }) (same-fields p n k) ∙ ap₂ (λ a b. record { key = b; fields = shownFields a b (viewPlant p) }) (session-is z fz n en) (key-is y fy k ek))
+  shown-so m em ef = (em ∙ same-mark p n k ∙ ap₂ (λ a b. mark a b (viewPlant p)) (session-is z fz n en) (indexed-is y fy keyCount k ek), ef ∙ ap (λ fs. record { key = k; fields = fs }) (same-fields p n k) ∙ ap₂ (λ a b. record { key = b; fields = shownFields a b (viewPlant p) }) (session-is z fz n en) (indexed-is y fy keyCount k ek))
 
   caches-so : (m : Marked) → Shows z y p m → cacheBy (viewMark (m .mark)) 0 (viewCached (m .fields)) (viewCache (p .cache)) ≡ cacheBy (mark n k (viewPlant p)) 0 (record { key = k; fields = shownFields n k (viewPlant p) }) (viewCache (p .cache))
   caches-so m s =
       ap₂ (λ x c. cacheBy x 0 c (viewCache (p .cache)))
-      (s .0 ∙ sym (ap₂ (λ a b. mark a b (viewPlant p)) (session-is z fz n en) (key-is y fy k ek)))
-      (s .1 ∙ sym (ap₂ (λ a b. record { key = b; fields = shownFields a b (viewPlant p) }) (session-is z fz n en) (key-is y fy k ek)))
+      (s .0 ∙ sym (ap₂ (λ a b. mark a b (viewPlant p)) (session-is z fz n en) (indexed-is y fy keyCount k ek)))
+      (s .1 ∙ sym (ap₂ (λ a b. record { key = b; fields = shownFields a b (viewPlant p) }) (session-is z fz n en) (indexed-is y fy keyCount k ek)))
 
 -- ── the plant left ──
 module _ (p : Plant) (z : ℤ) (fz : SFits w64 z) (y : ℤ) (fy : SFits w64 y)
