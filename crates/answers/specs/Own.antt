@@ -1,5 +1,5 @@
--- Which answers are a call's own, by the paper's numbers of the calls: a refusal, or the one that is named for it. The rules see numbers
--- alone, and a session's number may be the count of another call.
+-- Which answers are a call's own, by the paper's numbers of the calls: a refusal, or the one that is named for the call. The rules see an
+-- answer's numbers alone, and there a 5 may be a session's number as well as a count.
 use mathlib.Core.Bool.{Bool, true}
 use mathlib.Core.List.{[], _∷_}
 use lib.Dec.{eqb}

@@ -35,6 +35,7 @@ pub struct Marked {
 }
 
 impl Marked {
+    // What stands where no read has shown anything.
     pub fn nothing() -> Self
         ensures { λ r. ⌜ cachedForm (r .fields) ≡ true ⌝ }
     {

@@ -1,6 +1,6 @@
 -- `feed` meets its contract. What holds of a line is said once, at the places that each way through the loop's body passes: where its end is
 -- sought (`Sought`), where byte 10 ends it (`Line`), where its call is answered (`Answered`), where the answer is printed (`Printed`), and
--- where it is none of refusal (`Accepted`). Each way back to the loop's head adds what its call leaves.
+-- where it is no refusal (`Accepted`). Each way back to the loop's head adds what its call leaves.
 use Prim.Native.Nat.{_-_, _<_, _+_, _*_, _≤_, ℕ}
 use native.Mathlib.Omega.{arith}
 use mathlib.Core.Path.{_≡_, refl, sym, _∙_, ap}
