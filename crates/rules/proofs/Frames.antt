@@ -1,10 +1,10 @@
 -- What a call may write: the tables of the plant, and the caller's words.
 use Prim.Native.Nat.{_*_, ℕ}
 use native.Mathlib.Omega.{arith}
-use mathlib.Core.Path.{_∙_, _≡_, ap, fun-ext, refl, sym}
+use mathlib.Core.Path.{_∙_, _≡_, ap, ap₂, fun-ext, refl, sym}
 use mathlib.Core.Bool.{false, true}
 use mathlib.Core.Option.{Option, none, some}
-use mathlib.Core.List.{List, _++_, map}
+use mathlib.Core.List.{List, [], _++_, _∷_, map}
 use lib.ListN.{drop, length, length-append, length-drop}
 use lib.Dec.{eqb, ltb}
 use lib.IntN.{ℤ}
@@ -14,13 +14,13 @@ use Rattle.rules.specs.Limits.{rowLimit, wordsPerField}
 use Rattle.rules.specs.Refusals.{Refusal, endsSession, first}
 use Rattle.rules.specs.Values.{natOf, Place, Stock, showAll}
 use Rattle.rules.specs.Changes.{follow}
-use Rattle.rules.specs.Tables.{oldest, batchOf, unbuffer, Hand, empty, holds, handed, leased, Plant, withStore, withBuffer, withRows, withHand, withQueue}
+use Rattle.rules.specs.Tables.{oldest, batchOf, unbuffer, Hand, empty, holds, handed, Queue, leased, Plant, withStore, withBuffer, withRows, withHand, withQueue}
 use Rattle.rules.specs.Reading.{seen}
-use Rattle.rules.specs.Calls.{Fate, arrives, lost, unreached, fateOf, Call, Load, Map, Begin, Read, Change, Commit, Abandon, Advance, Take, Apply, Delete, Cut, Sweep, Store, Report, Pick}
+use Rattle.rules.specs.Calls.{Fate, arrives, lost, unreached, fateOf, Call, Load, Map, Begin, Read, Change, Commit, Abandon, Advance, Take, Apply, Delete, Cut, Sweep, Store, Report, replyNumber, fine, Pick}
 use Rattle.rules.specs.Conditions.{own, noRoom, conditions}
-use Rattle.rules.specs.Effects.{loaded, mapped, begun, afterRead, changed, committed, abandoned, advanced, taken, carried, applied, ended, orphaned, deleted, cut, swept}
+use Rattle.rules.specs.Effects.{loaded, mapped, begun, afterRead, changed, committed, abandoned, advanced, taken, carried, applied, replyTo, ended, orphaned, deleted, cut, swept}
 use Rattle.rules.specs.Step.{accepted, afterRefusal, settle, step}
-use Rattle.rules.specs.Claims.{Writes, WritesOnly, Fills, FillsOnly, CommitLeavesStore}
+use Rattle.rules.specs.Claims.{Writes, WritesOnly, Fills, FillsOnly, CommitLeavesStore, LeaseUnseen}
 use Rattle.rules.proofs.Laws.{byCase, self, not-met, NoneMet, none-met}
 use Rattle.rules.proofs.Words.{length-showAll}
 
@@ -118,6 +118,37 @@ writes-only c lent pick p = go (first (conditions c lent p))
 
 pub commit-leaves-store : CommitLeavesStore
 commit-leaves-store s lent pick p = (ap (λ q. q .store) (writes-only (Commit s) lent pick p), ap (λ q. q .rows) (writes-only (Commit s) lent pick p))
+
+-- ── apply under another queue lease ──
+carried-unseen : (n : ℕ) (p : Plant) (other : Queue) → carried n (withQueue other p) ≡ withQueue other (carried n p)
+unfolding carried
+carried-unseen n p other = byCase (has n (p .rows)) (λ e. rw e) (λ e. rw e)
+
+applied-unseen : (x : Fate) (w : ℕ) (p : Plant) (other : Queue) → applied x w (withQueue other p) ≡ withQueue other (applied x w p)
+unfolding applied
+applied-unseen arrives w p other = ap (withHand w (holds (handed (p .hands w)) true)) (carried-unseen (handed (p .hands w)) p other)
+applied-unseen lost w p other = byCase (noRoom w p) (λ e. rw e) (λ e. rw e (carried-unseen (handed (p .hands w)) p other))
+applied-unseen unreached w p other = refl
+
+reply-unseen : (x : Fate) (w : ℕ) (p : Plant) (other : Queue) → replyTo x w (withQueue other p) ≡ replyTo x w p
+reply-unseen arrives w p other = refl
+reply-unseen lost w p other = refl
+reply-unseen unreached w p other = refl
+
+pub lease-unseen : LeaseUnseen
+unfolding step accepted conditions
+lease-unseen w fate lent pick p other = go (first (conditions (Apply w fate) lent p))
+  where
+    go : (o : Option Refusal) → settle o (Apply w fate) lent pick (withQueue other p)
+        ≡ record {
+          answer = (settle o (Apply w fate) lent pick p) .answer;
+          words = (settle o (Apply w fate) lent pick p) .words;
+          plant = withQueue other ((settle o (Apply w fate) lent pick p) .plant);
+        }
+    go none =
+        ap₂ (λ r q. record { answer = fine (replyNumber r ∷ []); words = lent; plant = q }) (reply-unseen (fateOf fate) (natOf w) p other)
+        (applied-unseen (fateOf fate) (natOf w) p other)
+    go (some r) = byCase (endsSession r) (λ e. rw e) (λ e. rw e)
 
 -- ── the words ──
 fills-same : (c : Call) (lent : List ℤ) → Fills c lent lent

@@ -34,5 +34,6 @@ pub mod Drain
 pub mod Demand3
 pub mod Demand2
 pub mod Frames
+pub mod Numbers
 pub mod Answers
 pub mod Theorem

@@ -2,12 +2,13 @@
 use Rattle.rules.specs.Edges.{edges, paper-run}
 use Rattle.rules.specs.Runs.{runs}
 use Rattle.rules.specs.Theorem.{Theorem}
-use Rattle.rules.proofs.Steps.{refusals-leave, three-ends, four-ends}
+use Rattle.rules.proofs.Steps.{refusals-leave, three-ends, four-ends, spares-sessions}
 use Rattle.rules.proofs.KeptTest.{setup-is-kept, kept-step}
 use Rattle.rules.proofs.Away.{known-away, store-away, seen-fits}
 use Rattle.rules.proofs.Demand3.{demand3}
 use Rattle.rules.proofs.Demand2.{reads-show}
-use Rattle.rules.proofs.Frames.{writes-only, commit-leaves-store, fills-only}
+use Rattle.rules.proofs.Frames.{writes-only, commit-leaves-store, lease-unseen, fills-only}
+use Rattle.rules.proofs.Numbers.{numbers-rise}
 use Rattle.rules.proofs.Answers.{some-pick, answers-count}
 
 pub theorem : Theorem
@@ -16,6 +17,7 @@ theorem =
       refusalsLeave = refusals-leave;
       threeEnds = three-ends;
       fourEnds = four-ends;
+      sparesSessions = spares-sessions;
       writesOnly = writes-only;
       fillsOnly = fills-only;
       setupKept = setup-is-kept;
@@ -27,6 +29,8 @@ theorem =
       readsShow = reads-show;
       commitLeavesStore = commit-leaves-store;
       answersCount = answers-count;
+      numbersRise = numbers-rise;
+      leaseUnseen = lease-unseen;
       demand3 = demand3;
       edges = edges;
       paperRun = paper-run;

@@ -1,22 +1,25 @@
 -- What is claimed of one call, beside demand 3. Each claim is a type; proofs/Theorem names the proof of each.
 use Prim.Native.Nat.{_*_, _+_, suc, ℕ}
 use mathlib.Core.Path.{_≡_}
-use mathlib.Core.Bool.{false, true}
+use mathlib.Core.Bool.{Bool, false, true}
+use mathlib.Core.Option.{some}
 use mathlib.Core.List.{List, [], _++_, _∷_, map}
 use lib.ListN.{drop, length}
-use lib.IntN.{ℤ}
-use Rattle.rules.specs.Limits.{wordsPerField}
+use lib.Dec.{leb, ltb}
+use lib.IntN.{pos, ℤ}
+use Rattle.rules.specs.Lists.{any, all, pairwise, bit, span}
+use Rattle.rules.specs.Limits.{wordsPerField, firstSession, lastSession}
 use Rattle.rules.specs.Refusals.{Refusal, wasDoomed, exclusiveElsewhere}
 use Rattle.rules.specs.Values.{natOf, Place, inRange, fieldOk, showAll}
-use Rattle.rules.specs.Changes.{kindOf, Update, follow, isSet, placeOf}
-use Rattle.rules.specs.Tables.{documents, session, freed, holds, Plant, setup, withStore, withKeys, withCache, withSlots, withBuffer, withRows, withHand, withQueue, withClock, withNear, withNext}
+use Rattle.rules.specs.Changes.{kindOf, Update, follow, touches, isSet, placeOf, updateOf}
+use Rattle.rules.specs.Tables.{hasSlot, session, freed, Batch, empty, holds, Queue, leased, Plant, setup, withStore, withKeys, withCache, withSlots, withBuffer, withRows, withHand, withQueue, withClock, withNear, withNext}
 use Rattle.rules.specs.Reading.{seen, knownAway, seenAway}
-use Rattle.rules.specs.Calls.{fateOf, Call, Load, Map, Begin, Read, Change, Commit, Abandon, Advance, Take, Apply, Delete, Cut, Sweep, Store, Report, markNumber, replyNumber, refused, fine, Pick}
+use Rattle.rules.specs.Calls.{Pairs, Call, Load, Map, Begin, Read, Change, Commit, Abandon, Advance, Take, Apply, Delete, Cut, Sweep, Store, Report, Mark, markNumber, Reply, replyNumber, refused, fine, Pick}
 use Rattle.rules.specs.Conditions.{own}
-use Rattle.rules.specs.Effects.{newSession, mark, replyTo}
-use Rattle.rules.specs.Step.{count, heldShared, heldExclusive, step, Allowed}
+use Rattle.rules.specs.Step.{step, Allowed}
 use Rattle.rules.specs.Kept.{kept}
-use Rattle.rules.specs.History.{changesOf, History, wholeHistory, Turn, turns, AllAllowed, initial}
+use Rattle.rules.specs.History.{changesOf, History, wholeHistory, Turn, turns, AllAllowed, initial, numbersBegun}
+use Rattle.rules.specs.Answers.{Opens, Marks, Buffers, Replies, hasCome, Deletes, Reports, Sweeps}
 
 -- ── demand 1 ──
 -- a refused call leaves the plant and the words, but for refusals 3 and 4
@@ -37,6 +40,24 @@ pub record EndsSession (r : Refusal) : Type 0 where
   pub commit : (s : ℤ) → Ends r (Commit s) s
   pub abandon : (s : ℤ) → Ends r (Abandon s) s
   pub report : (s : ℤ) → Ends r (Report s) s
+
+-- a call without a session meets neither, so each of its refusals leaves plant and words
+abbrev pub Spares : Call → Type 0
+Spares c =
+    (lent : List ℤ) (pick : Pick) (p : Plant) (r : Refusal) → (step c lent pick p) .answer ≡ refused r
+    → (r ≡ wasDoomed → ⊥) × (r ≡ exclusiveElsewhere → ⊥) × (step c lent pick p ≡ record { answer = refused r; words = lent; plant = p })
+
+pub record SparesSessions : Type 0 where
+  pub load : (d f k v : ℤ) → Spares (Load d f k v)
+  pub map : (k n : ℤ) (m : Pairs) → Spares (Map k n m)
+  pub begin : Spares Begin
+  pub advance : (n : ℤ) → Spares (Advance n)
+  pub take : (w : ℤ) → Spares (Take w)
+  pub apply : (w fate : ℤ) → Spares (Apply w fate)
+  pub delete : (w : ℤ) → Spares (Delete w)
+  pub cut : (w : ℤ) → Spares (Cut w)
+  pub sweep : Spares Sweep
+  pub store : (n : ℤ) → Spares (Store n)
 
 -- ── what a call may write, refused or not ──
 -- the plant left, q, is p but for these tables
@@ -137,28 +158,56 @@ CommitLeavesStore =
     (s : ℤ) (lent : List ℤ) (pick : Pick) (p : Plant)
     → (((step (Commit s) lent pick p) .plant) .store ≡ p .store) × (((step (Commit s) lent pick p) .plant) .rows ≡ p .rows)
 
--- ── the numbers answered are those of the tables left ──
+-- ── the numbers answered are those of the tables left, and mean what Answers says ──
 abbrev pub Counts : Call → Plant → List ℕ → Plant → Type 0
 Counts (Load d f k v) p ns q = ns ≡ []
 Counts (Map k n m) p ns q = ns ≡ []
-Counts Begin p ns q = (ns ≡ p .next ∷ []) × (q .next ≡ suc (p .next)) × (session (p .next) (q .slots) ≡ newSession (p .clock))
-Counts (Read s k) p ns q = ns ≡ markNumber (mark (natOf s) (natOf k) p) ∷ []
-Counts (Change s d f k v) p ns q = ns ≡ length ((session (natOf s) (q .slots)) .changes) ∷ []
-Counts (Commit s) p ns q = ns ≡ length (q .buffer) ∷ []
-Counts (Abandon s) p ns q = ns ≡ []
-Counts (Advance n) p ns q = ns ≡ q .clock ∷ []
-Counts (Take w) p ns q = (n : ℕ) × (ns ≡ n ∷ []) × (q .hands (natOf w) ≡ holds n false)
-Counts (Apply w fate) p ns q = ns ≡ replyNumber (replyTo (fateOf fate) (natOf w) p) ∷ []
-Counts (Delete w) p ns q = (n : ℕ) × (ns ≡ n ∷ []) × (length (q .buffer) + n ≡ length (p .buffer))
-Counts (Cut w) p ns q = ns ≡ []
-Counts Sweep p ns q = (n : ℕ) × (ns ≡ n ∷ []) × (length (q .rows) + n ≡ length (p .rows))
-Counts (Store n) p ns q = ns ≡ []
-Counts (Report s) p ns q =
-    ns ≡ count (heldShared (session (natOf s) (q .slots))) documents ∷ count (heldExclusive (session (natOf s) (q .slots))) documents
-    ∷ length ((session (natOf s) (q .slots)) .changes)
-    ∷ []
+Counts Begin p ns q = (ns ≡ p .next ∷ []) × (q .next ≡ suc (p .next)) × Opens (p .next) p q
+Counts (Read s k) p ns q =
+    (m : Mark) × (ns ≡ markNumber m ∷ []) × Marks m (natOf k) (any (touches (own s p)) (p .keys (natOf k))) (p .cache) (q .cache)
+Counts (Change s d f k v) p ns q =
+    (ns ≡ length (own s q) ∷ []) × (own s q ≡ own s p ++ (updateOf (placeOf d f) (natOf k) v ∷ []))
+Counts (Commit s) p ns q =
+    (ns ≡ length (q .buffer) ∷ []) × Buffers (natOf s) (own s p) (p .buffer) (q .buffer) × (hasSlot (natOf s) (q .slots) ≡ false)
+Counts (Abandon s) p ns q = (ns ≡ []) × (hasSlot (natOf s) (q .slots) ≡ false)
+Counts (Advance n) p ns q = (ns ≡ q .clock ∷ []) × (q .clock ≡ p .clock + natOf n)
+-- the oldest buffered session, and the queue lease from now on
+Counts (Take w) p ns q =
+    (b : Batch) × (l : List Batch) × (p .buffer ≡ b ∷ l) × (ns ≡ b .number ∷ []) × (q .hands (natOf w) ≡ holds (b .number) false)
+    × (q .queue ≡ leased (some (natOf w)) (p .clock))
+Counts (Apply w fate) p ns q =
+    (r : Reply) × (n : ℕ) × (ns ≡ replyNumber r ∷ []) × (p .hands (natOf w) ≡ holds n false) × (q .hands (natOf w) ≡ holds n (hasCome r))
+    × Replies r fate n p q
+Counts (Delete w) p ns q =
+    (was : Bool) × (n : ℕ) × (ns ≡ bit was ∷ []) × (p .hands (natOf w) ≡ holds n true) × (q .hands (natOf w) ≡ empty)
+    × Deletes was n (p .buffer) (q .buffer)
+Counts (Cut w) p ns q = (ns ≡ []) × (q .hands (natOf w) ≡ empty)
+Counts Sweep p ns q = (n : ℕ) × (ns ≡ n ∷ []) × Sweeps n p q
+Counts (Store n) p ns q = (ns ≡ []) × (n ≡ pos (bit (q .near)))
+Counts (Report s) p ns q = (q ≡ p) × Reports (session (natOf s) (p .slots)) ns
 
 abbrev pub AnswersCount : Type 0
 AnswersCount =
     (c : Call) (lent : List ℤ) (pick : Pick) (p : Plant) (ns : List ℕ) → Allowed pick p → kept p ≡ true
     → (step c lent pick p) .answer ≡ fine ns → Counts c p ns ((step c lent pick p) .plant)
+
+-- session numbers count from 1 to the last, so that they rise and none is used again
+pub record Rises (ns : List ℕ) : Type 0 where
+  pub counts : ns ≡ span firstSession (length ns)
+  pub rises : pairwise ltb ns ≡ true
+  pub ends : all (λ n. leb n lastSession) ns ≡ true
+
+abbrev pub NumbersRise : Type 0
+NumbersRise = (ts : List Turn) → Rises (numbersBegun ts (initial .plant))
+
+-- ── apply does not look at the queue lease ──
+-- under any other it answers and writes the same
+abbrev pub LeaseUnseen : Type 0
+LeaseUnseen =
+    (w fate : ℤ) (lent : List ℤ) (pick : Pick) (p : Plant) (other : Queue)
+    → step (Apply w fate) lent pick (withQueue other p)
+    ≡ record {
+      answer = (step (Apply w fate) lent pick p) .answer;
+      words = (step (Apply w fate) lent pick p) .words;
+      plant = withQueue other ((step (Apply w fate) lent pick p) .plant);
+    }

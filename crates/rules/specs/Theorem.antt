@@ -1,6 +1,6 @@
 -- All that is claimed of the rules.
 use Rattle.rules.specs.Refusals.{wasDoomed, exclusiveElsewhere}
-use Rattle.rules.specs.Claims.{RefusalsLeave, EndsSession, WritesOnly, FillsOnly, SetupKept, StepKeeps, PickExists, KnownAway, StoreAway, SeenFits, ReadsShow, CommitLeavesStore, AnswersCount}
+use Rattle.rules.specs.Claims.{RefusalsLeave, EndsSession, SparesSessions, WritesOnly, FillsOnly, SetupKept, StepKeeps, PickExists, KnownAway, StoreAway, SeenFits, ReadsShow, CommitLeavesStore, AnswersCount, NumbersRise, LeaseUnseen}
 use Rattle.rules.specs.Demand3.{Demand3}
 use Rattle.rules.specs.Edges.{Edges, PaperRun}
 use Rattle.rules.specs.Runs.{Runs}
@@ -10,6 +10,7 @@ pub record Theorem : Type 0 where
   pub refusalsLeave : RefusalsLeave
   pub threeEnds : EndsSession wasDoomed
   pub fourEnds : EndsSession exclusiveElsewhere
+  pub sparesSessions : SparesSessions
   pub writesOnly : WritesOnly
   pub fillsOnly : FillsOnly
   -- the plant's rules
@@ -23,6 +24,8 @@ pub record Theorem : Type 0 where
   pub readsShow : ReadsShow
   pub commitLeavesStore : CommitLeavesStore
   pub answersCount : AnswersCount
+  pub numbersRise : NumbersRise
+  pub leaseUnseen : LeaseUnseen
   -- demand 3
   pub demand3 : Demand3
   -- worked examples

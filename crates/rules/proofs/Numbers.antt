@@ -1,0 +1,102 @@
+-- Session numbers in a list of calls: each begin answers the next one.
+use Prim.Native.Nat.{_+_, _<_, _≤_, suc, zero, ℕ}
+use native.Mathlib.Omega.{arith}
+use mathlib.Core.Path.{_∙_, _≡_, ap, refl, subst}
+use mathlib.Core.Bool.{Bool, false, true}
+use mathlib.Core.Option.{Option, none, some}
+use mathlib.Core.Logic.{_⊎_, inl, inr}
+use mathlib.Core.List.{List, [], _++_, _∷_}
+use lib.ListN.{length}
+use lib.Dec.{leb, ltb}
+use lib.IntN.{ℤ}
+use borrow.Author.Tests.{le-leb, lt-ltb, ltb-false}
+use Rattle.rules.specs.Lists.{all, pairwise, span}
+use Rattle.rules.specs.Limits.{firstSession, lastSession}
+use Rattle.rules.specs.Refusals.{Refusal, endsSession, first}
+use Rattle.rules.specs.Tables.{Plant, setup}
+use Rattle.rules.specs.Calls.{Call, Load, Map, Begin, Read, Change, Commit, Abandon, Advance, Take, Apply, Delete, Cut, Sweep, Store, Report, Answer, refused, fine, Pick}
+use Rattle.rules.specs.Conditions.{conditions}
+use Rattle.rules.specs.Effects.{begun}
+use Rattle.rules.specs.Step.{accepted, afterRefusal, settle, step}
+use Rattle.rules.specs.History.{Turn, does, initial, begunBy, numbersBegun}
+use Rattle.rules.specs.Claims.{Rises, NumbersRise}
+use Rattle.rules.proofs.Laws.{byCase, not-met, NoneMet, none-met, both}
+use Rattle.rules.proofs.Frames.{writes-only}
+
+-- what a call does to the next number: nothing, or it answers it
+abbrev Moves : List ℕ → ℕ → ℕ → Type 0
+Moves ns before after = ((ns ≡ []) × (after ≡ before)) ⊎ ((ns ≡ before ∷ []) × (after ≡ suc before) × (before ≤ lastSession))
+
+-- a call other than begin answers no session's number
+others : (c : Call) (lent : List ℤ) (pick : Pick) (p : Plant) → ((ns : List ℕ) → begunBy c (fine ns) ≡ [])
+    → ((step c lent pick p) .plant) .next ≡ p .next
+    → Moves (begunBy c ((step c lent pick p) .answer)) (p .next) (((step c lent pick p) .plant) .next)
+others c lent pick p h e = inl (none-begun ((step c lent pick p) .answer), e)
+  where
+    none-begun : (a : Answer) → begunBy c a ≡ []
+    none-begun (refused r) = refl
+    none-begun (fine ns) = h ns
+
+begins : (lent : List ℤ) (pick : Pick) (p : Plant)
+    → Moves (begunBy Begin ((step Begin lent pick p) .answer)) (p .next) (((step Begin lent pick p) .plant) .next)
+unfolding step accepted begun conditions
+begins lent pick p = go (first (conditions Begin lent p)) refl
+  where
+    go : (o : Option Refusal) → first (conditions Begin lent p) ≡ o
+        → Moves (begunBy Begin ((settle o Begin lent pick p) .answer)) (p .next) (((settle o Begin lent pick p) .plant) .next)
+    go none e = inr (refl, refl, ltb-false lastSession (p .next) (not-met _ _ (none-met (conditions Begin lent p) e .0)))
+    go (some r) e = inl (refl, byCase (endsSession r) (λ t. rw t) (λ t. rw t))
+
+moves : (c : Call) (lent : List ℤ) (pick : Pick) (p : Plant)
+    → Moves (begunBy c ((step c lent pick p) .answer)) (p .next) (((step c lent pick p) .plant) .next)
+moves (Load d f k v) lent pick p = others (Load d f k v) lent pick p (λ ns. refl) (ap (λ q. q .next) (writes-only (Load d f k v) lent pick p))
+moves (Map k n m) lent pick p = others (Map k n m) lent pick p (λ ns. refl) (ap (λ q. q .next) (writes-only (Map k n m) lent pick p))
+moves Begin lent pick p = begins lent pick p
+moves (Read s k) lent pick p = others (Read s k) lent pick p (λ ns. refl) (ap (λ q. q .next) (writes-only (Read s k) lent pick p))
+moves (Change s d f k v) lent pick p = others (Change s d f k v) lent pick p (λ ns. refl) (ap (λ q. q .next) (writes-only (Change s d f k v) lent pick p))
+moves (Commit s) lent pick p = others (Commit s) lent pick p (λ ns. refl) (ap (λ q. q .next) (writes-only (Commit s) lent pick p))
+moves (Abandon s) lent pick p = others (Abandon s) lent pick p (λ ns. refl) (ap (λ q. q .next) (writes-only (Abandon s) lent pick p))
+moves (Advance n) lent pick p = others (Advance n) lent pick p (λ ns. refl) (ap (λ q. q .next) (writes-only (Advance n) lent pick p))
+moves (Take w) lent pick p = others (Take w) lent pick p (λ ns. refl) (ap (λ q. q .next) (writes-only (Take w) lent pick p))
+moves (Apply w fate) lent pick p = others (Apply w fate) lent pick p (λ ns. refl) (ap (λ q. q .next) (writes-only (Apply w fate) lent pick p))
+moves (Delete w) lent pick p = others (Delete w) lent pick p (λ ns. refl) (ap (λ q. q .next) (writes-only (Delete w) lent pick p))
+moves (Cut w) lent pick p = others (Cut w) lent pick p (λ ns. refl) (ap (λ q. q .next) (writes-only (Cut w) lent pick p))
+moves Sweep lent pick p = others Sweep lent pick p (λ ns. refl) (ap (λ q. q .next) (writes-only Sweep lent pick p))
+moves (Store n) lent pick p = others (Store n) lent pick p (λ ns. refl) (ap (λ q. q .next) (writes-only (Store n) lent pick p))
+moves (Report s) lent pick p = others (Report s) lent pick p (λ ns. refl) (ap (λ q. q .next) (writes-only (Report s) lent pick p))
+
+-- ── every list of calls ──
+-- numbers that count on from n, to the last at most
+record From (n : ℕ) (ns : List ℕ) : Type 0 where
+  counts : ns ≡ span n (length ns)
+  ends : all (λ m. leb m lastSession) ns ≡ true
+
+from-next : (ts : List Turn) (p : Plant) → From (p .next) (numbersBegun ts p)
+from-next [] p = record { counts = refl; ends = refl }
+from-next (t ∷ ts) p =
+    go (begunBy (t .call) ((does t p) .answer)) (moves (t .call) (t .lent) (t .pick) p) (from-next ts ((does t p) .plant))
+  where
+    go : (ns : List ℕ) → Moves ns (p .next) (((does t p) .plant) .next)
+        → From (((does t p) .plant) .next) (numbersBegun ts ((does t p) .plant))
+        → From (p .next) (ns ++ numbersBegun ts ((does t p) .plant))
+    go ns (inl (e, n)) f = rw e (subst (λ m. From m (numbersBegun ts ((does t p) .plant))) n f)
+    go ns (inr (e, n, b)) f =
+        rw e (record {
+          counts = ap (λ l. p .next ∷ l) (f .counts ∙ ap (λ m. span m (length (numbersBegun ts ((does t p) .plant)))) (n ∙ omega arith));
+          ends = both (leb (p .next) lastSession) _ (le-leb (p .next) lastSession b) (f .ends);
+        })
+
+span-later : (n m k : ℕ) → n < m → all (ltb n) (span m k) ≡ true
+span-later n m zero h = refl
+span-later n m (suc k) h = both (ltb n m) (all (ltb n) (span (m + 1) k)) (lt-ltb n m h) (span-later n (m + 1) k (omega arith))
+
+span-rises : (n k : ℕ) → pairwise ltb (span n k) ≡ true
+span-rises n zero = refl
+span-rises n (suc k) =
+    both (all (ltb n) (span (n + 1) k)) (pairwise ltb (span (n + 1) k)) (span-later n (n + 1) k (omega arith)) (span-rises (n + 1) k)
+
+pub numbers-rise : NumbersRise
+unfolding initial setup
+numbers-rise ts =
+    let f = from-next ts (initial .plant) in
+    record { counts = f .counts; rises = ap (pairwise ltb) (f .counts) ∙ span-rises firstSession (length (numbersBegun ts (initial .plant))); ends = f .ends }

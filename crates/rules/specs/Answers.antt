@@ -1,0 +1,100 @@
+-- What the numbers of an answer mean, told by the tables before the call and after it. p is the plant before, q the plant after.
+use Prim.Native.Nat.{_+_, _<_, _≤_, ℕ}
+use mathlib.Core.Path.{_≡_}
+use mathlib.Core.Bool.{Bool, _&&_, false, not, true}
+use mathlib.Core.Logic.{_⊎_}
+use mathlib.Core.List.{List, [], _++_, _∷_}
+use lib.ListN.{length}
+use lib.IntN.{pos, ℤ}
+use Rattle.rules.specs.Lists.{keep, any, dropAt, has}
+use Rattle.rules.specs.Limits.{cacheLimit, rowLimit, sweepLimit}
+use Rattle.rules.specs.Changes.{Update, follow}
+use Rattle.rules.specs.Tables.{free, isHeld, isExclusive, documents, Session, hasSlot, session, Cached, isCached, Batch, isBuffered, anyHand, Plant}
+use Rattle.rules.specs.Calls.{arrives, lost, unreached, fateNumber, Mark, fromCache, cachedNow, ownChange, Reply, noWord, done, doneBefore}
+
+-- ── begin ──
+-- nobody had the number; its session is live, holds and changed nothing, and begins now
+pub record Opens (n : ℕ) (p q : Plant) : Type 0 where
+  pub noSlot : hasSlot n (p .slots) ≡ false
+  pub notBuffered : isBuffered n (p .buffer) ≡ false
+  pub noRow : has n (p .rows) ≡ false
+  pub new : session n (q .slots) ≡ record { begun = p .clock; doomed = false; lease = λ d. free; changes = [] }
+
+-- ── read ──
+-- the key stands last among the cached ones; the others stand as they stood, but that of sixteen one gave way
+pub record CachesLast (k : ℕ) (before after : List Cached) : Type 0 where
+  pub others : List Cached
+  pub new : Cached
+  pub key : new .key ≡ k
+  pub last : after ≡ others ++ (new ∷ [])
+  pub stand : ((length before < cacheLimit) × (others ≡ before))
+      ⊎ ((length before ≡ cacheLimit) × (n : ℕ) × (n < cacheLimit) × (others ≡ dropAt n before))
+
+-- of a key k and whether an own change touches a place of it, with the cached keys before and after
+abbrev pub Marks : Mark → ℕ → Bool → List Cached → List Cached → Type 0
+Marks fromCache k touched before after = (touched ≡ false) × (isCached k before ≡ true) × (after ≡ before)
+Marks cachedNow k touched before after = (touched ≡ false) × (isCached k before ≡ false) × CachesLast k before after
+Marks ownChange k touched before after = (touched ≡ true) × (after ≡ before)
+
+-- ── commit ──
+-- the changes of session s stand last in the buffer; without changes it takes no place
+abbrev pub Buffers : ℕ → List Update → List Batch → List Batch → Type 0
+Buffers s [] before after = after ≡ before
+Buffers s (c ∷ cs) before after = after ≡ before ++ (record { number = s; changes = c ∷ cs } ∷ [])
+
+-- ── apply ──
+-- the transaction of session n, the oldest buffered one: its row was not there and stands last now, and the store is followed by its changes
+pub record Carries (n : ℕ) (p q : Plant) : Type 0 where
+  pub noRow : has n (p .rows) ≡ false
+  pub batch : Batch
+  pub later : List Batch
+  pub oldest : p .buffer ≡ batch ∷ later
+  pub number : batch .number ≡ n
+  pub store : q .store ≡ follow (p .store) (batch .changes)
+  pub row : q .rows ≡ p .rows ++ (n ∷ [])
+
+-- the store with its rows is as it was
+pub record StoreStays (p q : Plant) : Type 0 where
+  pub store : q .store ≡ p .store
+  pub rows : q .rows ≡ p .rows
+
+-- done with the reply lost: the transaction, or nothing because the row was there or there was no room for one
+abbrev pub Loses : ℕ → Plant → Plant → Type 0
+Loses n p q = Carries n p q ⊎ (((has n (p .rows) ≡ true) ⊎ (length (p .rows) ≡ rowLimit)) × StoreStays p q)
+
+-- of the session n in hand
+abbrev pub Replies : Reply → ℤ → ℕ → Plant → Plant → Type 0
+Replies done fate n p q = (fate ≡ pos (fateNumber arrives)) × Carries n p q
+Replies doneBefore fate n p q = (fate ≡ pos (fateNumber arrives)) × (has n (p .rows) ≡ true) × StoreStays p q
+Replies noWord fate n p q = ((fate ≡ pos (fateNumber lost)) × Loses n p q) ⊎ ((fate ≡ pos (fateNumber unreached)) × StoreStays p q)
+
+-- what the hand remembers: a reply of done or done before has come
+abbrev pub hasCome : Reply → Bool
+hasCome done = true
+hasCome doneBefore = true
+hasCome noWord = false
+
+-- ── delete ──
+-- 1: session n was buffered, as the oldest, and is gone; 0: it was gone already, and the buffer is as it was
+abbrev pub Deletes : Bool → ℕ → List Batch → List Batch → Type 0
+Deletes true n before after = (b : Batch) × (b .number ≡ n) × (before ≡ b ∷ after)
+Deletes false n before after = (isBuffered n before ≡ false) × (after ≡ before)
+
+-- ── report ──
+-- how many documents the session holds shared, how many exclusive, and how many changes it has
+abbrev pub Reports : Session → List ℕ → Type 0
+Reports s ns =
+    ns ≡ length (keep (λ d. isHeld (s .lease d) && not (isExclusive (s .lease d))) documents)
+    ∷ length (keep (λ d. isExclusive (s .lease d)) documents)
+    ∷ length (s .changes)
+    ∷ []
+
+-- ── sweep ──
+-- n rows are gone and none came; a row stays whose session is buffered or in a hand;
+-- at most 16 are gone, and at least one if there was one to remove
+pub record Sweeps (n : ℕ) (p q : Plant) : Type 0 where
+  pub counted : length (q .rows) + n ≡ length (p .rows)
+  pub noneCame : (m : ℕ) → has m (q .rows) ≡ true → has m (p .rows) ≡ true
+  pub stays : (m : ℕ) → has m (p .rows) ≡ true → (isBuffered m (p .buffer) ≡ true) ⊎ (anyHand (p .hands) m ≡ true) → has m (q .rows) ≡ true
+  pub atMost : n ≤ sweepLimit
+  pub atLeast : any (λ m. not (isBuffered m (p .buffer)) && not (anyHand (p .hands) m)) (p .rows) ≡ true → 1 ≤ n
