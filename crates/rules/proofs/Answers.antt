@@ -1,37 +1,37 @@
--- The numbers that calls answer are those of the tables they leave.
-use Prim.Native.Nat.{_+_, _<_, _≤_, suc, ℕ}
+-- The numbers that calls answer are those of the tables they leave, on every plant that keeps the rules.
+use Prim.Native.Nat.{_+_, _<_, _≤_, ℕ}
 use native.Mathlib.Omega.{arith}
 use mathlib.Core.Path.{_∙_, _≡_, ap, refl, subst, sym}
 use mathlib.Core.Bool.{Bool, _&&_, cond, false, not, true, true≢false}
 use mathlib.Core.Logic.{_⊎_, inl, inr}
-use mathlib.Core.List.{List, [], _++_, _∷_, map}
-use lib.ListN.{length, length-append}
+use mathlib.Core.List.{List, [], _∷_}
+use lib.ListN.{length}
 use lib.Dec.{eqb, leb}
-use lib.IntN.{negsuc, pos, ℤ}
-use borrow.Author.Tests.{eqb-true, leb-false, leb-true, not-false}
-use Rattle.rules.specs.Lists.{keep, any, all, pushed, isEmpty, dropAt, has, isCase, caseOf, sameCase, bit}
-use Rattle.rules.specs.Limits.{cacheLimit, slotLimit, changeLimit, bufferLimit, rowLimit, workerCount}
+use lib.IntN.{ℤ}
+use borrow.Author.Tests.{eqb-true, leb-false, not-false}
+use Rattle.rules.specs.Lists.{keep, any, all, isEmpty, has, bit}
+use Rattle.rules.specs.Limits.{slotLimit, changeLimit, workerCount}
 use Rattle.rules.specs.Refusals.{outOfRange, wrongHand}
-use Rattle.rules.specs.Values.{below, natOf, isNatural}
-use Rattle.rules.specs.Changes.{Update, touches, placeOf, updateOf}
-use Rattle.rules.specs.Tables.{free, isHeld, doomedSession, Slot, hasSlot, session, freed, Cached, isCached, Batch, numbersOf, isBuffered, oldest, isOldest, batchOf, unbuffer, Hand, empty, holds, full, replied, handed, Plant, removable}
-use Rattle.rules.specs.Reading.{current}
-use Rattle.rules.specs.Calls.{Fate, arrives, lost, unreached, fateNumber, fates, fateOf, Call, Load, Map, Begin, Read, Change, Commit, Abandon, Advance, Take, Apply, Delete, Cut, Sweep, Store, Report, fromCache, cachedNow, ownChange, Reply, noWord, done, doneBefore, replyNumber, Pick}
-use Rattle.rules.specs.Conditions.{own, goodFate, noRoom, conditions}
-use Rattle.rules.specs.Effects.{opened, room, begun, mark, evicted, cacheBy, cacheAfter, afterRead, withExclusive, withLast, withChange, grant, changed, bufferedAfter, committed, abandoned, advanced, taken, carried, applied, replyTo, deleted, cut, swept}
+use Rattle.rules.specs.Values.{below, natOf}
+use Rattle.rules.specs.Changes.{Update, placeOf, updateOf}
+use Rattle.rules.specs.Tables.{free, doomedSession, hasSlot, session, numbersOf, isBuffered, full, replied, Plant, removable}
+use Rattle.rules.specs.Calls.{unreached, fateNumber, fates, fateOf, Call, Load, Map, Begin, Read, Change, Commit, Abandon, Advance, Take, Apply, Delete, Cut, Sweep, Store, Report, Pick}
+use Rattle.rules.specs.Conditions.{own, goodFate, conditions}
+use Rattle.rules.specs.Effects.{opened, room, begun, mark, afterRead, advanced, swept}
 use Rattle.rules.specs.Step.{accepted, Allowed}
-use Rattle.rules.specs.Answers.{Opens, CachesLast, Marks, Buffers, Carries, Replies, hasCome, Deletes, Sweeps}
+use Rattle.rules.specs.Answers.{Opens, Sweeps}
 use Rattle.rules.specs.Claims.{Counts, AnswersCount}
-use Rattle.rules.proofs.Laws.{byCase, self, not-met, NoneMet, or-false, and-true, both, case-number, below-is, pushed-room}
-use Rattle.rules.proofs.Tests.{once-is, all-head, all-tail, length-dropAt}
+use Rattle.rules.proofs.Laws.{byCase, self, not-met, NoneMet, or-false, and-true, both, below-is, pushed-room}
+use Rattle.rules.proofs.Tests.{once-is, all-head, all-tail}
 use Rattle.rules.proofs.Steps.{step-fine, given, fine-none}
-use Rattle.rules.proofs.Slots.{session-each, hasSlot-freed, session-snoc, has-slot}
-use Rattle.rules.proofs.KeptParts.{NoRows, TailFree, Kept}
-use Rattle.rules.proofs.Buffer.{is-oldest, has-row, once-keep, not-swept, has-kept, buffered-nums, not-held, row-room, carried-hands}
+use Rattle.rules.proofs.Slots.{session-snoc, has-slot}
+use Rattle.rules.proofs.KeptParts.{Kept}
+use Rattle.rules.proofs.Buffer.{is-oldest, has-row, once-keep, not-swept, has-kept, buffered-nums, not-held}
+use Rattle.rules.proofs.Answered.{begin-counts, marks, changed-count, changed-length, commit-ends, abandon-ends, buffers, takes, cut-empties, case-is, hand-is, held, heard, delete-empties, deletes, report-leaves}
 use Rattle.rules.proofs.KeptSlots.{room-fits, slots-room, no-next}
 use Rattle.rules.proofs.KeptTables.{not-next, nums-good, has-keep-true}
 use Rattle.rules.proofs.KeptTest.{kept-iff}
-use Rattle.rules.proofs.Drain.{once-length, unbuffer-none}
+use Rattle.rules.proofs.Drain.{once-length}
 
 -- begin: the session answered has a slot, is live, without leases or changes, and begins now
 pub begun-slot : (p : Plant) → leb slotLimit (length (p .slots)) && not (any (λ s. (s .session) .doomed) (p .slots)) ≡ false → Kept p
@@ -53,205 +53,6 @@ opens p r k =
       noRow = not-next (p .next) (p .rows) (k .rows .numbers);
       new = begun-slot p r k;
     }
-
--- read: the mark tells what was cached and what is
-caches-last : (n : ℕ) (c : Cached) (l : List Cached) → n < cacheLimit → length l ≤ cacheLimit → CachesLast (c .key) l (pushed cacheLimit (evicted n l) c)
-caches-last n c l lt few =
-    byCase (leb cacheLimit (length l))
-    (λ e. rw e (record {
-      others = dropAt n l;
-      new = c;
-      key = refl;
-      last = pushed-room cacheLimit (dropAt n l) c (omega (arith, leb-true cacheLimit (length l) e, length-dropAt n l (omega (arith, leb-true cacheLimit (length l) e))));
-      stand = inr (omega (arith, leb-true cacheLimit (length l) e), n, lt, refl);
-    }))
-    (λ e. rw e (record {
-      others = l;
-      new = c;
-      key = refl;
-      last = pushed-room cacheLimit l c (leb-false cacheLimit (length l) e);
-      stand = inl (leb-false cacheLimit (length l) e, refl);
-    }))
-
-pub marks : (s k : ℕ) (pick : Pick) (p : Plant) → pick .gives < cacheLimit → length (p .cache) ≤ cacheLimit
-    → Marks (mark s k p) k (any (touches ((session s (p .slots)) .changes)) (p .keys k)) (p .cache) (cacheAfter s k pick p)
-unfolding cacheAfter
-marks s k pick p lt few = go (any (touches ((session s (p .slots)) .changes)) (p .keys k)) (isCached k (p .cache)) refl refl
-  where
-    new : Cached
-    new = record { key = k; fields = map (current p) (p .keys k) }
-
-    go : (t b : Bool) → any (touches ((session s (p .slots)) .changes)) (p .keys k) ≡ t → isCached k (p .cache) ≡ b
-        → Marks (cond t ownChange (cond b fromCache cachedNow)) k (any (touches ((session s (p .slots)) .changes)) (p .keys k)) (p .cache)
-        (cacheBy (cond t ownChange (cond b fromCache cachedNow)) (pick .gives) new (p .cache))
-    go true b e d = (e, refl)
-    go false true e d = (e, d, refl)
-    go false false e d = (e, d, caches-last (pick .gives) new (p .cache) lt few)
-
--- change: the count answered is the session's in the plant left
-pub changed-count : (s : ℕ) (c : Update) (p : Plant) → length ((session s (p .slots)) .changes) < changeLimit → hasSlot s (p .slots) ≡ true
-    → (session s ((changed s c p) .slots)) .changes ≡ (session s (p .slots)) .changes ++ (c ∷ [])
-unfolding changed grant withExclusive withLast
-changed-count s c p r h =
-    ap (λ t. t .changes) (session-each (grant (p .clock) s c) s (p .slots))
-    ∙ ap (λ b. (cond b (grant (p .clock) s c s (session s (p .slots))) doomedSession) .changes) h
-    ∙ ap (λ b. (cond b (withChange (p .clock) c (session s (p .slots)))
-    (cond (isHeld ((session s (p .slots)) .lease (c .at .document))) doomedSession (session s (p .slots)))) .changes) (self s)
-    ∙ pushed-room changeLimit ((session s (p .slots)) .changes) c r
-
-pub changed-length : (s : ℕ) (c : Update) (p : Plant) → length ((session s (p .slots)) .changes) < changeLimit → hasSlot s (p .slots) ≡ true
-    → length ((session s ((changed s c p) .slots)) .changes) ≡ suc (length ((session s (p .slots)) .changes))
-changed-length s c p r h = ap length (changed-count s c p r h) ∙ length-append ((session s (p .slots)) .changes) (c ∷ []) ∙ omega arith
-
--- commit: the changes stand last
-pub buffers : (s : ℕ) (cs : List Update) (l : List Batch) → not (isEmpty cs) && leb bufferLimit (length l) ≡ false → Buffers s cs l (bufferedAfter s cs l)
-buffers s [] l r = refl
-buffers s (c ∷ cs) l r = pushed-room bufferLimit l (record { number = s; changes = c ∷ cs }) (leb-false bufferLimit (length l) r)
-
-no-slot-left : (s : ℕ) (l : List Slot) → hasSlot s (freed s l) ≡ false
-no-slot-left s l = hasSlot-freed s s l ∙ rw (self s)
-
--- take: the first of the buffer
-first-batch : (l : List Batch) → isEmpty l ≡ false → (b : Batch) × (k : List Batch) × (l ≡ b ∷ k)
-first-batch [] e = absurd (true≢false e)
-first-batch (b ∷ k) e = (b, k, refl)
-
--- ── apply ──
-natural-is : (z : ℤ) → isNatural z ≡ true → z ≡ pos (natOf z)
-natural-is (pos n) e = refl
-natural-is (negsuc n) e = absurd (true≢false (sym e))
-
--- an argument that is one of the cases has its number
-case-is : {A : Type 0} (number : A → ℕ) (e : A) (l : List A) (z : ℤ) → isNatural z && isCase number l (natOf z) ≡ true
-    → z ≡ pos (number (caseOf number e l (natOf z)))
-case-is number e l z g =
-    let h = and-true (isNatural z) (isCase number l (natOf z)) g in
-    natural-is z (h .0) ∙ ap pos (sym (case-number number e l (natOf z) (h .1)))
-
-hand-is : (h : Hand) (r : Bool) → full h ≡ true → replied h ≡ r → h ≡ holds (handed h) r
-hand-is empty r f e = absurd (true≢false (sym f))
-hand-is (holds m b) r f e = ap (holds m) e
-
-oldest-is : (n : ℕ) (l : List Batch) → isOldest n l ≡ true → (b : Batch) × (k : List Batch) × (l ≡ b ∷ k) × (b .number ≡ n) × (batchOf n l ≡ b .changes)
-oldest-is n [] e = absurd (true≢false (sym e))
-oldest-is n (b ∷ k) e = (b, k, refl, sym (eqb-true n (b .number) e), rw e)
-
--- a session without a row is carried
-carries : (n : ℕ) (p q : Plant) → q .store ≡ (carried n p) .store → q .rows ≡ (carried n p) .rows → has n (p .rows) ≡ false
-    → isOldest n (p .buffer) ≡ true → length (p .rows) < rowLimit → Carries n p q
-unfolding carried
-carries n p q s r e o lt =
-    let b = oldest-is n (p .buffer) o in
-    record {
-      noRow = e;
-      batch = b .0;
-      later = b .1;
-      oldest = b .2;
-      number = b .3;
-      store = s ∙ rw (e, b .4);
-      row = r ∙ rw (e, pushed-room rowLimit (p .rows) n lt);
-    }
-
--- one with a row is not
-stays-carried : (n : ℕ) (p : Plant) → has n (p .rows) ≡ true → carried n p ≡ p
-unfolding carried
-stays-carried n p e = rw e
-
-abbrev Heard : Fate → ℕ → ℤ → Plant → Type 0
-Heard x w fate p =
-    (r : Reply) × (n : ℕ) × (replyNumber (replyTo x w p) ∷ [] ≡ replyNumber r ∷ []) × (p .hands w ≡ holds n false)
-    × ((applied x w p) .hands w ≡ holds n (hasCome r))
-    × Replies r fate n p (applied x w p)
-
-abbrev held : ℕ → Plant → ℕ
-held w p = handed (p .hands w)
-
-module _ (w : ℕ) (fate : ℤ) (p : Plant) (hand : p .hands w ≡ holds (held w p) false)
-    (first : has (held w p) (p .rows) ≡ false → isOldest (held w p) (p .buffer) ≡ true) where
-  heard-reply : fate ≡ pos (fateNumber arrives) → noRoom w p ≡ false → Heard arrives w fate p
-  unfolding applied
-  heard-reply f r =
-      byCase (has (held w p) (p .rows))
-      (λ e. (
-        doneBefore,
-        held w p,
-        rw e,
-        hand,
-        rw (self w),
-        (
-          f,
-          e,
-          record { store = ap (λ q. q .store) (stays-carried (held w p) p e); rows = ap (λ q. q .rows) (stays-carried (held w p) p e) },
-        ),
-      ))
-      (λ e. (
-        done,
-        held w p,
-        rw e,
-        hand,
-        rw (self w),
-        (
-          f,
-          carries (held w p) p (applied arrives w p) refl refl e (first e) (row-room (held w p) (p .rows) r e),
-        ),
-      ))
-
-  heard-nothing : length (p .rows) ≤ rowLimit → fate ≡ pos (fateNumber lost) → Heard lost w fate p
-  unfolding applied
-  heard-nothing few f =
-      byCase (noRoom w p)
-      (λ t. rw t (
-        noWord,
-        held w p,
-        refl,
-        hand,
-        hand,
-        inl (
-          f,
-          inr (
-            inr (omega (arith, leb-true rowLimit (length (p .rows)) (and-true _ _ t .0))),
-            record { store = refl; rows = refl },
-          ),
-        ),
-      ))
-      (λ t. rw t (byCase (has (held w p) (p .rows))
-      (λ e. rw (stays-carried (held w p) p e) (noWord, held w p, refl, hand, hand, inl (f, inr (inl e, record { store = refl; rows = refl }))))
-      (λ e. (
-        noWord,
-        held w p,
-        refl,
-        hand,
-        ap (λ h. h w) (carried-hands (held w p) p) ∙ hand,
-        inl (f, inl (carries (held w p) p (carried (held w p) p) refl refl e (first e) (row-room (held w p) (p .rows) t e))),
-      ))))
-
-heard : (x : Fate) (w : ℕ) (fate : ℤ) (p : Plant) → fate ≡ pos (fateNumber x) → p .hands w ≡ holds (held w p) false
-    → (has (held w p) (p .rows) ≡ false → isOldest (held w p) (p .buffer) ≡ true) → length (p .rows) ≤ rowLimit
-    → sameCase fateNumber x arrives && noRoom w p ≡ false → Heard x w fate p
-unfolding applied
-heard arrives w fate p f hand first few r = heard-reply w fate p hand first f r
-heard lost w fate p f hand first few r = heard-nothing w fate p hand first few f
-heard unreached w fate p f hand first few r = (noWord, held w p, refl, hand, hand, inr (f, record { store = refl; rows = refl }))
-
--- ── delete ──
-no-rows-has : (n : ℕ) (rows : List ℕ) (l : List Batch) → has n rows ≡ true → NoRows rows l → has n (numbersOf l) ≡ false
-no-rows-has n rows [] h r = refl
-no-rows-has n rows (b ∷ l) h r =
-    byCase (eqb n (b .number))
-    (λ e. absurd (true≢false (sym h ∙ ap (λ m. has m rows) (eqb-true n (b .number) e) ∙ r .0)))
-    (λ e. rw e (no-rows-has n rows l h (r .1)))
-
--- a session with a row is buffered as the oldest or not at all
-pub deletes : (n : ℕ) (rows : List ℕ) (l : List Batch) → has n rows ≡ true → TailFree rows l → Deletes (isBuffered n l) n l (unbuffer n l)
-deletes n rows [] h t = (refl, refl)
-deletes n rows (b ∷ l) h t = go (eqb n (b .number)) refl
-  where
-    none-later : has n (numbersOf l) ≡ false
-    none-later = no-rows-has n rows l h t
-
-    go : (o : Bool) → eqb n (b .number) ≡ o → Deletes (isBuffered n (b ∷ l)) n (b ∷ l) (unbuffer n (b ∷ l))
-    go true e = rw e (b, sym (eqb-true n (b .number) e), ap (λ k. b ∷ k) (sym (unbuffer-none n l none-later)))
-    go false e = rw (e, buffered-nums n l, none-later, unbuffer-none n l none-later) (rw e (buffered-nums n l ∙ none-later), refl)
 
 -- sweep: the rows removed are as many as answered
 pub split-length : (f : ℕ → Bool) (l : List ℕ) → length (keep f l) + length (keep (λ n. not (f n)) l) ≡ length l
@@ -353,28 +154,27 @@ some-pick p = go (find-row p (p .rows) (λ n e. e))
 -- ── every call ──
 counts-accepted : (c : Call) (lent : List ℤ) (pick : Pick) (p : Plant) → NoneMet (conditions c lent p) → Allowed pick p → Kept p
     → Counts c p (given ((accepted c lent pick p) .answer)) ((accepted c lent pick p) .plant)
-unfolding accepted conditions begun afterRead committed abandoned advanced taken deleted cut
+unfolding accepted conditions afterRead advanced
 counts-accepted (Load d f kd v) lent pick p m al k = refl
 counts-accepted (Map ky n qs) lent pick p m al k = refl
-counts-accepted Begin lent pick p m al k = (refl, refl, opens p (not-met _ _ (m .1 .0)) k)
+counts-accepted Begin lent pick p m al k = (refl, begin-counts p, opens p (not-met _ _ (m .1 .0)) k)
 counts-accepted (Read s ky) lent pick p m al k =
     (mark (natOf s) (natOf ky) p, refl, marks (natOf s) (natOf ky) pick p (al .oneOfSixteen) (k .cache .few))
-counts-accepted (Change s d f kd v) lent pick p m al k = (ap (λ n. n ∷ []) (sym (changed-length (natOf s) c p room slot)), changed-count (natOf s) c p room slot)
+counts-accepted (Change s d f kd v) lent pick p m al k =
+    (ap (λ n. n ∷ []) (sym (changed-length (natOf s) c p few slot)), changed-count (natOf s) c p few slot)
   where
     c : Update
     c = updateOf (placeOf d f) (natOf kd) v
 
-    room : length (own s p) < changeLimit
-    room = leb-false changeLimit (length (own s p)) (not-met _ _ (m .1 .1 .1 .0))
+    few : length (own s p) < changeLimit
+    few = leb-false changeLimit (length (own s p)) (not-met _ _ (m .1 .1 .1 .0))
 
     slot : hasSlot (natOf s) (p .slots) ≡ true
     slot = has-slot (natOf s) (p .slots) (not-met _ _ (m .1 .1 .0))
-counts-accepted (Commit s) lent pick p m al k = (refl, buffers (natOf s) (own s p) (p .buffer) (not-met _ _ (m .1 .1 .0)), no-slot-left (natOf s) (p .slots))
-counts-accepted (Abandon s) lent pick p m al k = (refl, no-slot-left (natOf s) (p .slots))
+counts-accepted (Commit s) lent pick p m al k = (refl, buffers (natOf s) p (not-met _ _ (m .1 .1 .0)), commit-ends (natOf s) p)
+counts-accepted (Abandon s) lent pick p m al k = (refl, abandon-ends (natOf s) p)
 counts-accepted (Advance n) lent pick p m al k = (refl, refl)
-counts-accepted (Take w) lent pick p m al k =
-    let b = first-batch (p .buffer) (not-met _ _ (m .1 .1 .1 .0)) in
-    (b .0, b .1, b .2, ap (λ l. oldest l ∷ []) (b .2), rw (self (natOf w)) (ap (λ l. holds (oldest l) false) (b .2)), refl)
+counts-accepted (Take w) lent pick p m al k = takes (natOf w) p (not-met _ _ (m .1 .1 .1 .0))
 counts-accepted (Apply w fate) lent pick p m al k =
     heard (fateOf fate) (natOf w) fate p (case-is fateNumber unreached fates fate (good .1)) (hand-is (p .hands (natOf w)) false isFull (hand .1))
     (λ e. is-oldest (p .rows) (p .buffer) (p .hands (natOf w)) isFull e (k .hands (natOf w) (below-is w workerCount (good .0)))) (k .rows .few)
@@ -388,21 +188,23 @@ counts-accepted (Apply w fate) lent pick p m al k =
 
     isFull : full (p .hands (natOf w)) ≡ true
     isFull = not-false _ (hand .0)
-counts-accepted (Delete w) lent pick p m al k =
-    (isBuffered n (p .buffer), n, refl, hand-is (p .hands (natOf w)) true (hand .0) (hand .1), rw (self (natOf w)), deletes n (p .rows) (p .buffer) row (k .buffer .tail))
+counts-accepted (Delete w) lent pick p m al k = (
+  isBuffered (held (natOf w) p) (p .buffer),
+  held (natOf w) p,
+  refl,
+  hand-is (p .hands (natOf w)) true (hand .0) (hand .1),
+  delete-empties (natOf w) p,
+  deletes (natOf w) p
+      (has-row (p .rows) (p .buffer) (p .hands (natOf w)) (hand .0) (hand .1) (k .hands (natOf w) (below-is w workerCount (not-false _ (not-met _ _ (m .0))))))
+      (k .buffer .tail),
+)
   where
-    n : ℕ
-    n = handed (p .hands (natOf w))
-
     hand : (full (p .hands (natOf w)) ≡ true) × (replied (p .hands (natOf w)) ≡ true)
     hand = and-true (full (p .hands (natOf w))) (replied (p .hands (natOf w))) (not-false _ (not-met _ wrongHand (m .1 .0)))
-
-    row : has n (p .rows) ≡ true
-    row = has-row (p .rows) (p .buffer) (p .hands (natOf w)) (hand .0) (hand .1) (k .hands (natOf w) (below-is w workerCount (not-false _ (not-met _ _ (m .0)))))
-counts-accepted (Cut w) lent pick p m al k = (refl, rw (self (natOf w)))
+counts-accepted (Cut w) lent pick p m al k = (refl, cut-empties (natOf w) p)
 counts-accepted Sweep lent pick p m al k = (length (pick .swept), refl, sweeps p pick k al)
 counts-accepted (Store n) lent pick p m al k = (refl, case-is bit false (true ∷ false ∷ []) n (not-false _ (not-met _ _ (m .0))))
-counts-accepted (Report s) lent pick p m al k = (refl, refl)
+counts-accepted (Report s) lent pick p m al k = (report-leaves s lent pick p, refl)
 
 pub answers-count : AnswersCount
 answers-count c lent pick p ns al k e =

@@ -106,6 +106,11 @@ pub nums-unbuffer : (n : ℕ) (l : List Batch) → numbersOf (unbuffer n l) ≡ 
 nums-unbuffer n [] = refl
 nums-unbuffer n (b ∷ l) = byCase (eqb n (b .number)) (λ e. rw e (nums-unbuffer n l)) (λ e. rw e (ap (λ z. b .number ∷ z) (nums-unbuffer n l)))
 
+pub unbuffer-none : (n : ℕ) (l : List Batch) → has n (numbersOf l) ≡ false → unbuffer n l ≡ l
+unbuffer-none n [] h = refl
+unbuffer-none n (b ∷ l) h =
+    byCase (eqb n (b .number)) (λ e. absurd (true≢false (rw e at h))) (λ e. rw e (ap (λ z. b ∷ z) (unbuffer-none n l (rw e at h))))
+
 pub length-unbuffer : (n : ℕ) (l : List Batch) → length (unbuffer n l) ≤ length l
 length-unbuffer n [] = omega arith
 length-unbuffer n (b ∷ l) =

@@ -12,7 +12,7 @@ use borrow.Author.Tests.{eqb-true, lt-leb, lt-ltb}
 use Rattle.rules.specs.Lists.{keep, any, all, isEmpty, has, without, upto}
 use Rattle.rules.specs.Limits.{rowLimit, workerCount}
 use Rattle.rules.specs.Refusals.{queueLeased, wrongHand, _⇒_}
-use Rattle.rules.specs.Tables.{Batch, numbersOf, isBuffered, unbuffer, Hand, empty, holds, full, handed, inHand, anyHand, leased, isLeased, Plant, removable, withHand}
+use Rattle.rules.specs.Tables.{Batch, numbersOf, isBuffered, Hand, empty, holds, full, handed, inHand, anyHand, leased, isLeased, Plant, removable, withHand}
 use Rattle.rules.specs.Calls.{Call, Take, Apply, Delete, Sweep, Answer, Pick}
 use Rattle.rules.specs.Conditions.{conditions}
 use Rattle.rules.specs.Effects.{room, taken, carried, applied, deleted, swept}
@@ -23,7 +23,7 @@ use Rattle.rules.proofs.Laws.{byCase, self, or-one, and-true}
 use Rattle.rules.proofs.Tests.{Once, all-head}
 use Rattle.rules.proofs.Steps.{unmet, step-fine}
 use Rattle.rules.proofs.KeptParts.{Kept}
-use Rattle.rules.proofs.Buffer.{has-append, length-keep, length-keep-less, buffered-nums}
+use Rattle.rules.proofs.Buffer.{has-append, length-keep, length-keep-less, buffered-nums, unbuffer-none}
 use Rattle.rules.proofs.Kept.{step-keeps, turns-keep}
 use Rattle.rules.proofs.Prepare.{fine-append}
 
@@ -167,11 +167,6 @@ round-apply v b l lent k p lt s room =
     (step-fine (Apply (pos v) (pos 0)) lent k p
     (rw (lt-ltb v workerCount lt), (rw (s .hand), (rw (s .near), (rw (lt-leb rowLimit (length (p .rows)) room), tt)))))
     (refl, rw (s .hand) (carried-stage v (b .number) b l p s))
-
-pub unbuffer-none : (n : ℕ) (l : List Batch) → has n (numbersOf l) ≡ false → unbuffer n l ≡ l
-unbuffer-none n [] h = refl
-unbuffer-none n (b ∷ l) h =
-    byCase (eqb n (b .number)) (λ e. absurd (true≢false (rw e at h))) (λ e. rw e (ap (λ z. b ∷ z) (unbuffer-none n l (rw e at h))))
 
 pub round-delete : (v : ℕ) (b : Batch) (l : List Batch) (lent : List ℤ) (k : Pick) (p : Plant) → v < workerCount → Stage v true b l p
     → has (b .number) (numbersOf l) ≡ false

@@ -14,15 +14,16 @@ use Rattle.rules.specs.Limits.{rowLimit, wordsPerField}
 use Rattle.rules.specs.Refusals.{Refusal, endsSession, first}
 use Rattle.rules.specs.Values.{natOf, Place, Stock, showAll}
 use Rattle.rules.specs.Changes.{follow}
-use Rattle.rules.specs.Tables.{oldest, batchOf, unbuffer, Hand, empty, holds, handed, Queue, leased, Plant, withStore, withBuffer, withRows, withHand, withQueue}
+use Rattle.rules.specs.Tables.{oldest, batchOf, unbuffer, Hand, empty, holds, handed, leased, Plant, withStore, withBuffer, withRows, withHand, withQueue}
 use Rattle.rules.specs.Reading.{seen}
 use Rattle.rules.specs.Calls.{Fate, arrives, lost, unreached, fateOf, Call, Load, Map, Begin, Read, Change, Commit, Abandon, Advance, Take, Apply, Delete, Cut, Sweep, Store, Report, replyNumber, fine, Pick}
 use Rattle.rules.specs.Conditions.{own, noRoom, conditions}
-use Rattle.rules.specs.Effects.{loaded, mapped, begun, afterRead, changed, committed, abandoned, advanced, taken, carried, applied, replyTo, ended, orphaned, deleted, cut, swept}
+use Rattle.rules.specs.Effects.{loaded, mapped, begun, afterRead, changed, committed, abandoned, advanced, taken, carried, applied, ended, orphaned, deleted, cut, swept}
 use Rattle.rules.specs.Step.{accepted, afterRefusal, settle, step}
 use Rattle.rules.specs.Claims.{Writes, WritesOnly, Fills, FillsOnly, CommitLeavesStore, LeaseUnseen}
 use Rattle.rules.proofs.Laws.{byCase, self, not-met, NoneMet, none-met}
 use Rattle.rules.proofs.Words.{length-showAll}
+use Rattle.rules.proofs.Answered.{asks-unseen, applied-unseen, reply-unseen}
 
 -- ── hands ──
 override-same : {A : Type 0} (f : ℕ → A) (w : ℕ) → override f w (f w) ≡ f
@@ -120,24 +121,9 @@ pub commit-leaves-store : CommitLeavesStore
 commit-leaves-store s lent pick p = (ap (λ q. q .store) (writes-only (Commit s) lent pick p), ap (λ q. q .rows) (writes-only (Commit s) lent pick p))
 
 -- ── apply under another queue lease ──
-carried-unseen : (n : ℕ) (p : Plant) (other : Queue) → carried n (withQueue other p) ≡ withQueue other (carried n p)
-unfolding carried
-carried-unseen n p other = byCase (has n (p .rows)) (λ e. rw e) (λ e. rw e)
-
-applied-unseen : (x : Fate) (w : ℕ) (p : Plant) (other : Queue) → applied x w (withQueue other p) ≡ withQueue other (applied x w p)
-unfolding applied
-applied-unseen arrives w p other = ap (withHand w (holds (handed (p .hands w)) true)) (carried-unseen (handed (p .hands w)) p other)
-applied-unseen lost w p other = byCase (noRoom w p) (λ e. rw e) (λ e. rw e (carried-unseen (handed (p .hands w)) p other))
-applied-unseen unreached w p other = refl
-
-reply-unseen : (x : Fate) (w : ℕ) (p : Plant) (other : Queue) → replyTo x w (withQueue other p) ≡ replyTo x w p
-reply-unseen arrives w p other = refl
-reply-unseen lost w p other = refl
-reply-unseen unreached w p other = refl
-
 pub lease-unseen : LeaseUnseen
-unfolding step accepted conditions
-lease-unseen w fate lent pick p other = go (first (conditions (Apply w fate) lent p))
+unfolding step accepted
+lease-unseen w fate lent pick p other = rw (asks-unseen w fate lent p other) (go (first (conditions (Apply w fate) lent p)))
   where
     go : (o : Option Refusal) → settle o (Apply w fate) lent pick (withQueue other p)
         ≡ record {

@@ -8,11 +8,16 @@ pub mod Steps
 pub mod Slots
 pub mod KeptParts
 pub mod Buffer
+pub mod Words
+-- what is claimed of a call on any plant, or needs few of the plant's rules
+pub mod Answered
+pub mod Frames
+pub mod Numbers
+pub mod Sessionless
 -- parts of the invariant
 pub mod Invariant
 pub mod Workers
 pub mod Leases
-pub mod Words
 pub mod Sessions
 -- the rules that a plant keeps
 pub mod KeptSlots
@@ -33,7 +38,5 @@ pub mod Prepare
 pub mod Drain
 pub mod Demand3
 pub mod Demand2
-pub mod Frames
-pub mod Numbers
 pub mod Answers
 pub mod Theorem

@@ -2,25 +2,25 @@
 use Prim.Native.Nat.{_+_, _<_, _≤_, suc, zero, ℕ}
 use native.Mathlib.Omega.{arith}
 use mathlib.Core.Path.{_∙_, _≡_, ap, refl, subst}
-use mathlib.Core.Bool.{Bool, false, true}
+use mathlib.Core.Bool.{true}
 use mathlib.Core.Option.{Option, none, some}
 use mathlib.Core.Logic.{_⊎_, inl, inr}
 use mathlib.Core.List.{List, [], _++_, _∷_}
 use lib.ListN.{length}
 use lib.Dec.{leb, ltb}
 use lib.IntN.{ℤ}
-use borrow.Author.Tests.{le-leb, lt-ltb, ltb-false}
+use borrow.Author.Tests.{le-leb, lt-ltb}
 use Rattle.rules.specs.Lists.{all, pairwise, span}
 use Rattle.rules.specs.Limits.{firstSession, lastSession}
 use Rattle.rules.specs.Refusals.{Refusal, endsSession, first}
 use Rattle.rules.specs.Tables.{Plant, setup}
 use Rattle.rules.specs.Calls.{Call, Load, Map, Begin, Read, Change, Commit, Abandon, Advance, Take, Apply, Delete, Cut, Sweep, Store, Report, Answer, refused, fine, Pick}
 use Rattle.rules.specs.Conditions.{conditions}
-use Rattle.rules.specs.Effects.{begun}
-use Rattle.rules.specs.Step.{accepted, afterRefusal, settle, step}
+use Rattle.rules.specs.Step.{accepted, settle, step}
 use Rattle.rules.specs.History.{Turn, does, initial, begunBy, numbersBegun}
-use Rattle.rules.specs.Claims.{Rises, NumbersRise}
-use Rattle.rules.proofs.Laws.{byCase, not-met, NoneMet, none-met, both}
+use Rattle.rules.specs.Claims.{NumbersRise}
+use Rattle.rules.proofs.Laws.{byCase, none-met, both}
+use Rattle.rules.proofs.Answered.{begin-counts, begin-fits}
 use Rattle.rules.proofs.Frames.{writes-only}
 
 -- what a call does to the next number: nothing, or it answers it
@@ -39,12 +39,12 @@ others c lent pick p h e = inl (none-begun ((step c lent pick p) .answer), e)
 
 begins : (lent : List ℤ) (pick : Pick) (p : Plant)
     → Moves (begunBy Begin ((step Begin lent pick p) .answer)) (p .next) (((step Begin lent pick p) .plant) .next)
-unfolding step accepted begun conditions
+unfolding step accepted
 begins lent pick p = go (first (conditions Begin lent p)) refl
   where
     go : (o : Option Refusal) → first (conditions Begin lent p) ≡ o
         → Moves (begunBy Begin ((settle o Begin lent pick p) .answer)) (p .next) (((settle o Begin lent pick p) .plant) .next)
-    go none e = inr (refl, refl, ltb-false lastSession (p .next) (not-met _ _ (none-met (conditions Begin lent p) e .0)))
+    go none e = inr (refl, begin-counts p, begin-fits lent p (none-met (conditions Begin lent p) e))
     go (some r) e = inl (refl, byCase (endsSession r) (λ t. rw t) (λ t. rw t))
 
 moves : (c : Call) (lent : List ℤ) (pick : Pick) (p : Plant)

@@ -2,7 +2,8 @@
 use Rattle.rules.specs.Edges.{edges, paper-run}
 use Rattle.rules.specs.Runs.{runs}
 use Rattle.rules.specs.Theorem.{Theorem}
-use Rattle.rules.proofs.Steps.{refusals-leave, three-ends, four-ends, spares-sessions}
+use Rattle.rules.proofs.Steps.{refusals-leave, three-ends, four-ends}
+use Rattle.rules.proofs.Sessionless.{spares-sessions}
 use Rattle.rules.proofs.KeptTest.{setup-is-kept, kept-step}
 use Rattle.rules.proofs.Away.{known-away, store-away, seen-fits}
 use Rattle.rules.proofs.Demand3.{demand3}

@@ -80,15 +80,6 @@ abbrev pub Deletes : Bool → ℕ → List Batch → List Batch → Type 0
 Deletes true n before after = (b : Batch) × (b .number ≡ n) × (before ≡ b ∷ after)
 Deletes false n before after = (isBuffered n before ≡ false) × (after ≡ before)
 
--- ── report ──
--- how many documents the session holds shared, how many exclusive, and how many changes it has
-abbrev pub Reports : Session → List ℕ → Type 0
-Reports s ns =
-    ns ≡ length (keep (λ d. isHeld (s .lease d) && not (isExclusive (s .lease d))) documents)
-    ∷ length (keep (λ d. isExclusive (s .lease d)) documents)
-    ∷ length (s .changes)
-    ∷ []
-
 -- ── sweep ──
 -- n rows are gone and none came; a row stays whose session is buffered or in a hand;
 -- at most 16 are gone, and at least one if there was one to remove
@@ -98,3 +89,12 @@ pub record Sweeps (n : ℕ) (p q : Plant) : Type 0 where
   pub stays : (m : ℕ) → has m (p .rows) ≡ true → (isBuffered m (p .buffer) ≡ true) ⊎ (anyHand (p .hands) m ≡ true) → has m (q .rows) ≡ true
   pub atMost : n ≤ sweepLimit
   pub atLeast : any (λ m. not (isBuffered m (p .buffer)) && not (anyHand (p .hands) m)) (p .rows) ≡ true → 1 ≤ n
+
+-- ── report ──
+-- how many documents the session holds shared, how many exclusive, and how many changes it has
+abbrev pub Reports : Session → List ℕ → Type 0
+Reports s ns =
+    ns ≡ length (keep (λ d. isHeld (s .lease d) && not (isExclusive (s .lease d))) documents)
+    ∷ length (keep (λ d. isExclusive (s .lease d)) documents)
+    ∷ length (s .changes)
+    ∷ []

@@ -1,4 +1,4 @@
--- What is claimed of one call, beside demand 3. Each claim is a type; proofs/Theorem names the proof of each.
+-- What is claimed of one call, and of lists of calls beside demand 3. Each claim is a type; proofs/Theorem names the proof of each.
 use Prim.Native.Nat.{_*_, _+_, suc, ℕ}
 use mathlib.Core.Path.{_≡_}
 use mathlib.Core.Bool.{Bool, false, true}
