@@ -1,6 +1,9 @@
 -- Every claim, proved.
 use Rattle.rules.specs.Edges.{edges, paper-run}
 use Rattle.rules.specs.Runs.{runs}
+use Rattle.rules.specs.Orders.{orders}
+use Rattle.rules.specs.Bounds.{bounds}
+use Rattle.rules.specs.Histories.{histories}
 use Rattle.rules.specs.Theorem.{Theorem}
 use Rattle.rules.proofs.Steps.{refusals-leave, three-ends, four-ends}
 use Rattle.rules.proofs.Sessionless.{spares-sessions}
@@ -36,4 +39,7 @@ theorem =
       edges = edges;
       paperRun = paper-run;
       runs = runs;
+      orders = orders;
+      bounds = bounds;
+      histories = histories;
     }

@@ -1,104 +1,48 @@
 -- More runs worked out from paper 01: each refusal beside calls that are accepted, leases, marks, words, and the workers' calls.
-use Prim.Native.Nat.{_<_, _≤_, suc, zero, ℕ}
+use Prim.Native.Nat.{_<_, _≤_}
 use mathlib.Core.Path.{_≡_, refl}
-use mathlib.Core.Bool.{false, true}
+use mathlib.Core.Bool.{false, true, false≢true, true≢false}
 use mathlib.Core.List.{List, [], _++_, _∷_, map}
 use lib.ListN.{length, replicate}
 use lib.IntN.{negsuc, pos}
 use Rattle.rules.specs.Lists.{pushed, span}
 use Rattle.rules.specs.Limits.{documentCount, fieldCount, keyCount, placeLimit, memberLimit, cacheLimit, slotLimit, changeLimit, bufferLimit, rowLimit, sweepLimit, workerCount, wordsPerField, leaseTicks, sessionTicks, advanceLimit, lastTick, firstSession, lastSession, highest}
 use Rattle.rules.specs.Refusals.{refusalNumber, outOfRange, noSlot, wasDoomed, exclusiveElsewhere, changesFull, wrongKind, seventhMember, sumTooLarge, keyUndefined, slotsFull, numbersSpent, sessionBegun, keyDefined, badPlaces, bufferFull, queueLeased, wrongHand, nothingBuffered, rowsFull, storeAway, clockEnd, fewWords, badLine, _⇒_}
-use Rattle.rules.specs.Values.{fits32, number, list}
+use Rattle.rules.specs.Values.{fits32, absent, number, list, show}
 use Rattle.rules.specs.Changes.{set, unset, inc, add, push, pull, becomes, member, pullFirst, putLast, change, outcomeRefusal, fieldOf, meets, updated, fieldAfter, sets}
 use Rattle.rules.specs.Tables.{documents, Plant, setup, removable, withRows, withClock, withNext}
 use Rattle.rules.specs.Reading.{showsIt}
-use Rattle.rules.specs.Calls.{arrives, lost, unreached, Load, Map, Begin, Change, Commit, Abandon, Advance, Take, Apply, Sweep, Store, Report, callNumber, fine, Pick}
+use Rattle.rules.specs.Calls.{arrives, lost, unreached, Load, Map, Begin, Read, Change, Commit, Abandon, Advance, Take, Apply, Delete, Cut, Sweep, Store, Report, callNumber, fine, Pick}
 use Rattle.rules.specs.Conditions.{conditions}
 use Rattle.rules.specs.Effects.{loaded, mapped, begun, cacheAfter, onlyAt, afterRead, withExclusive, withLast, grant, changed, committed, abandoned, lapses, lapse, loses, isLost, inDocuments, stays, advanced, taken, carried, applied, deleted, cut, swept}
 use Rattle.rules.specs.Step.{accepted, step, Allowed}
 use Rattle.rules.specs.Kept.{kept}
-use Rattle.rules.specs.History.{saw, wrote, emptyHistory, note, Turn, turns, initial}
-use Rattle.rules.specs.Scenario.{Line, _gets_, yes, says, no, lineOf, after, Plays, load, pair, zeros, mapOne, mapTwo, read, edit, commit, report, advance, takes, apply, delete, cuts, near, origin, mapOrigin, editOrigin, setting}
+use Rattle.rules.specs.Scenario.{Line, _gets_, yes, says, no, lineOf, after, Plays, load, pair, zeros, mapOne, mapTwo, read, edit, commit, report, advance, takes, apply, delete, cuts, near, origin, mapOrigin, editOrigin, setting, noPick, begins, setsBy, pushes, mapKeys, readKeys, handWithRows, applied1, deleted1, slow1, overtaken}
 use Rattle.rules.specs.Edges.{changing}
 
--- session 1's next n sets of the origin, after k
-abbrev pub sets1 : ℕ → ℕ → List Line
-sets1 zero k = []
-sets1 (suc n) k = editOrigin 1 set (pos 0) gets says (suc k) ∷ sets1 n (suc k)
-
--- n begins after k
-abbrev pub begins : ℕ → ℕ → List Line
-begins zero k = []
-begins (suc n) k = Begin gets says (suc k) ∷ begins n (suc k)
-
--- n pushes of 1 to the origin
-abbrev pub pushes : ℕ → List Line
-pushes zero = []
-pushes (suc n) = load 0 0 push (pos 1) gets yes ∷ pushes n
-
--- a session buffered and in worker 0's hand, with k rows from n on
-abbrev pub handWithRows : ℕ → ℕ → Plant
-handWithRows n k = withRows (span n k) (after (setting 1 1 ++ (takes 0 gets says 1 ∷ [])) setup)
-
--- session 1 applied by worker 0, and deleted from the buffer
-abbrev pub applied1 : List Line
-applied1 = setting 1 1 ++ (takes 0 gets says 1 ∷ apply 0 arrives gets says 1 ∷ [])
-
-abbrev pub deleted1 : List Line
-deleted1 = applied1 ++ (delete 0 gets says 1 ∷ [])
-
--- session 1 applied by worker 0, whose reply is lost and who is slow; then by worker 1
-abbrev pub slow1 : List Line
-slow1 =
+-- session 1 in worker 3's hand, applied without a reply, and deleted by worker 0
+abbrev pub lastHand3 : List Line
+lastHand3 =
     setting 1 1
-    ++ (takes 0 gets says 1
-    ∷ apply 0 lost gets says 0
-    ∷ advance 300 gets says 300
-    ∷ takes 1 gets says 1
-    ∷ apply 1 arrives gets says 2
-    ∷ delete 1 gets says 1
-    ∷ [])
-
--- keys 0 to n - 1, each with its own document, and reads of them by session 1 that cache them
-abbrev pub mapKeys : ℕ → List Line
-mapKeys zero = []
-mapKeys (suc n) = mapOne n (pair n 0) gets yes ∷ mapKeys n
-
-abbrev pub readKeys : ℕ → List Line
-readKeys zero = []
-readKeys (suc n) = read 1 n gets says 1 ∷ readKeys n
-
--- the turns of a run, with eight words lent and no choice
-abbrev pub turnsOf : List Line → List Turn
-turnsOf = map (λ l. record { call = l .call; lent = replicate 8 (pos 0); pick = record { gives = 0; swept = [] } })
-
--- a session's life with the store: read, changed, committed, carried
-abbrev pub life : List Line
-life =
-    Load (pos 0) (pos 0) (pos 1) (pos 100) gets yes
-    ∷ mapOrigin gets yes
-    ∷ Begin gets says 1
-    ∷ read 1 0 gets says 1
-    ∷ Change (pos 1) (pos 0) (pos 0) (pos 3) (negsuc 24) gets says 1
-    ∷ Begin gets says 2
-    ∷ commit 2 gets says 0
-    ∷ commit 1 gets says 1
-    ∷ takes 3 gets says 1
-    ∷ []
-
--- two workers with the first session in hand, the second one's lease live and nothing buffered
-abbrev pub overtaken : List Line
-overtaken =
-    setting 1 1
-    ++ (takes 1 gets says 1
-    ∷ apply 1 arrives gets says 1
+    ++ (takes 3 gets says 1
+    ∷ apply 3 lost gets says 0
     ∷ advance 300 gets says 300
     ∷ takes 0 gets says 1
-    ∷ delete 1 gets says 1
+    ∷ apply 0 arrives gets says 2
+    ∷ delete 0 gets says 1
     ∷ [])
 
-abbrev pub noPick : Pick
-noPick = record { gives = 0; swept = [] }
+-- 100, inc -25 by session 1, which is applied and still buffered
+abbrev pub carriedOnce : List Line
+carriedOnce =
+    load 0 0 set (pos 100) gets yes
+    ∷ mapOrigin gets yes
+    ∷ Begin gets says 1
+    ∷ editOrigin 1 inc (negsuc 24) gets says 1
+    ∷ commit 1 gets says 1
+    ∷ takes 0 gets says 1
+    ∷ apply 0 lost gets says 0
+    ∷ []
 
 pub record Runs : Type 0 where
   -- 1: documents, fields, changes and their values
@@ -166,7 +110,7 @@ pub record Runs : Type 0 where
       ∷ report 1 gets (0 ∷ 0 ∷ 1 ∷ 1 ∷ [])
       ∷ [])
   -- 5: eight changes
-  pub nine : Plays setup (Begin gets says 1 ∷ sets1 8 0 ++ (editOrigin 1 set (pos 0) gets no 5 ∷ []))
+  pub nine : Plays setup (Begin gets says 1 ∷ setsBy 1 8 0 ++ (editOrigin 1 set (pos 0) gets no 5 ∷ []))
   -- 6 and 8: wrong kind, a sum outside 32 bits; the session goes on
   pub unfit : Plays setup
       (load 0 0 set (pos 7) gets yes
@@ -184,7 +128,7 @@ pub record Runs : Type 0 where
       ∷ [])
   -- 7: a seventh member, of push and of add
   pub seven : Plays setup
-      (pushes 6
+      (pushes 0 0 6
       ++ (load 0 0 push (pos 1) gets no 7
       ∷ load 0 0 add (pos 1) gets yes
       ∷ load 0 0 add (pos 2) gets no 7
@@ -597,81 +541,240 @@ pub record Runs : Type 0 where
       ∷ delete 0 gets says 1
       ∷ takes 1 gets says 2
       ∷ []))
-  -- ── two conditions hold: the first in the paper's order is given ──
-  pub orderLoad : Plays setup
-      (load 0 0 set (pos 1) gets yes
-      ∷ near false gets yes
-      ∷ load 0 0 push (pos 1) gets no 20
-      ∷ Begin gets says 1
-      ∷ load 0 0 push (pos 1) gets no 12
-      ∷ load 64 0 push (pos 1) gets no 1
+  -- 1: negative numbers, of every argument that has a range, and values outside 32 bits of every change but unset
+  pub negatives : Plays setup
+      (Load (pos 0) (negsuc 0) (pos 1) (pos 5) gets no 1
+      ∷ Load (pos 0) (pos 0) (negsuc 0) (pos 5) gets no 1
+      ∷ Map (negsuc 0) (pos 1) (record { first = zeros; second = zeros; third = zeros; fourth = zeros }) gets no 1
+      ∷ Map (pos 0) (pos 1) (record { first = record { document = negsuc 0; field = pos 0 }; second = zeros; third = zeros; fourth = zeros }) gets no 1
+      ∷ Map (pos 0) (pos 1) (record { first = record { document = pos 0; field = negsuc 0 }; second = zeros; third = zeros; fourth = zeros }) gets no 1
+      ∷ Read (pos 1) (negsuc 0) gets no 1
+      ∷ Change (pos 1) (negsuc 0) (pos 0) (pos 1) (pos 5) gets no 1
+      ∷ Change (pos 1) (pos 0) (negsuc 0) (pos 1) (pos 5) gets no 1
+      ∷ Apply (negsuc 0) (pos 0) gets no 1
+      ∷ Apply (pos 0) (negsuc 0) gets no 1
+      ∷ Delete (negsuc 0) gets no 1
+      ∷ Cut (negsuc 0) gets no 1
+      ∷ load 0 0 inc (pos 2147483648) gets no 1
+      ∷ load 0 0 add (negsuc 2147483648) gets no 1
+      ∷ load 0 0 push (pos 2147483648) gets no 1
+      ∷ load 0 0 pull (pos 2147483648) gets no 1
+      ∷ load 0 0 pull (negsuc 2147483648) gets no 1
+      ∷ load 0 0 pull (negsuc 2147483647) gets yes
       ∷ [])
-  pub orderMap : Plays setup
-      (mapOrigin gets yes
-      ∷ Map (pos 0) (pos 0) (record { first = zeros; second = zeros; third = zeros; fourth = zeros }) gets no 13
-      ∷ Begin gets says 1
-      ∷ mapOrigin gets no 12
-      ∷ mapOne 32 zeros gets no 1
-      ∷ Map (pos 1) (pos 1) (record { first = zeros; second = pair 64 0; third = zeros; fourth = zeros }) gets no 1
-      ∷ [])
-  pub orderBegin : Plays (withNext (suc lastSession) (after (begins 8 0) setup)) (Begin gets no 11 ∷ [])
-  pub orderRead : Plays setup
-      (mapTwo 0 zeros (pair 1 0) gets yes
-      ∷ near false gets yes
-      ∷ Begin gets says 1
-      ∷ Begin gets says 2
-      ∷ editOrigin 1 set (pos 4) gets says 1
-      ∷ read 3 32 gets no 1
-      ∷ read 3 5 gets no 2
-      ∷ read 2 0 gets no 4
-      ∷ advance 1000 gets says 1000
-      ∷ read 1 5 gets no 3
-      ∷ [])
-  pub orderWords : lineOf ((step (read 2 0) [] noPick (after (mapOrigin gets yes ∷ Begin gets says 1 ∷ Begin gets says 2 ∷ editOrigin 1 set (pos 4) gets says 1 ∷ []) setup)) .answer)
-      ≡ no 22
-  pub orderChange : Plays setup
-      (load 0 0 set (pos 7) gets yes
-      ∷ near false gets yes
-      ∷ Begin gets says 1
-      ∷ sets1 8 0
-      ++ (Begin gets says 2
-      ∷ edit 2 9 0 set (pos 1) gets says 1
-      ∷ edit 1 9 0 inc (pos 1) gets no 5
-      ∷ Begin gets says 3
-      ∷ edit 3 9 1 inc (pos 1) gets no 4
-      ∷ Begin gets says 4
-      ∷ edit 4 8 0 push (pos 1) gets no 20
-      ∷ edit 5 64 0 push (pos 1) gets no 1
-      ∷ edit 5 8 0 push (pos 1) gets no 2
-      ∷ []))
-  -- 20 comes before 6, 7 and 8: what is unknown is not judged
-  pub orderAway : Plays setup (load 1 0 set (pos 7) gets yes ∷ near false gets yes ∷ Begin gets says 1 ∷ edit 1 1 0 push (pos 1) gets no 20 ∷ [])
-  pub orderCommit : Plays setup
-      (changing 32 0
-      ++ (Begin gets says 33
-      ∷ editOrigin 33 set (pos 5) gets says 1
+  -- 2: a number is not cut to 32 bits
+  pub wideSession : Plays setup (Begin gets says 1 ∷ report 4294967297 gets no 2 ∷ Abandon (pos 4294967297) gets no 2 ∷ report 1 gets (0 ∷ 0 ∷ 0 ∷ 0 ∷ []) ∷ [])
+  -- 6: an add meets a number
+  pub addToNumber : Plays setup (load 0 0 set (pos 7) gets yes ∷ load 0 0 add (pos 1) gets no 6 ∷ Begin gets says 1 ∷ editOrigin 1 add (pos 1) gets no 6 ∷ [])
+  -- a list that has become empty is shown as a list
+  pub emptyShown : show (list []) ≡ pos 2 ∷ pos 0 ∷ pos 0 ∷ pos 0 ∷ pos 0 ∷ pos 0 ∷ pos 0 ∷ pos 0 ∷ []
+  -- sessions that lapse at once: the keys of each one's documents are dropped
+  pub lapseTogether : Plays setup
+      (mapOne 0 (pair 0 0) gets yes
+      ∷ mapOne 1 (pair 1 0) gets yes
+      ∷ begins 2 0
+      ++ (read 1 0 gets says 1
+      ∷ read 2 1 gets says 1
       ∷ advance 300 gets says 300
-      ∷ commit 33 gets no 3
+      ∷ Begin gets says 3
+      ∷ read 3 0 gets says 1
+      ∷ read 3 1 gets says 1
       ∷ []))
-  pub orderAdvance : Plays (withClock 99999999999 setup) (advance 65536 gets no 1 ∷ advance 65535 gets no 21 ∷ [])
-  pub orderApply : Plays (handWithRows 2 48)
-      (near false gets yes
-      ∷ apply 0 arrives gets no 20
-      ∷ apply 1 arrives gets no 17
-      ∷ Apply (pos 1) (pos 3) gets no 1
+  -- a delete ends a lease in its own name also where the session is already gone
+  pub goneLease : Plays setup (overtaken ++ (apply 0 arrives gets says 2 ∷ delete 0 gets says 0 ∷ takes 2 gets no 18 ∷ []))
+  -- mark 2 by any of the own changes, the first, one between or the last
+  pub markByAny : Plays setup
+      (mapOne 0 (pair 0 0) gets yes
+      ∷ mapOne 1 (pair 1 0) gets yes
+      ∷ mapOne 2 (pair 2 0) gets yes
+      ∷ Begin gets says 1
+      ∷ edit 1 0 0 set (pos 4) gets says 1
+      ∷ edit 1 1 0 set (pos 4) gets says 2
+      ∷ edit 1 2 0 set (pos 4) gets says 3
+      ∷ read 1 0 gets says 2
+      ∷ read 1 1 gets says 2
+      ∷ read 1 2 gets says 2
       ∷ [])
-  -- ── the history, from calls and answers alone ──
-  pub pages : ((turns (turnsOf life) initial) .history) .commits
-      ≡ record { number = 2; page = [] }
-      ∷ record {
-        number = 1;
-        page = saw (origin ∷ []) (pos 1 ∷ pos 1 ∷ pos 100 ∷ pos 0 ∷ pos 0 ∷ pos 0 ∷ pos 0 ∷ pos 0 ∷ []) ∷ wrote (record { at = origin; kind = inc; value = negsuc 24 }) ∷ [];
-      }
-      ∷ []
-  pub startAndNotes : (((turns (turnsOf life) initial) .history) .start origin ≡ number (pos 100))
-      × (((turns (turnsOf life) initial) .history) .buffered ≡ 1 ∷ [])
-      × (((turns (turnsOf life) initial) .history) .noted 3 ≡ 1)
-      × (((turns (turnsOf life) initial) .history) .keys 0 ≡ origin ∷ [])
+  -- known by any buffered session: an unset of one with a row, and a set of a later one
+  pub bufferedKnown : Plays setup
+      (mapOne 0 (pair 0 0) gets yes
+      ∷ mapOne 1 (pair 1 0) gets yes
+      ∷ Begin gets says 1
+      ∷ editOrigin 1 unset (pos 0) gets says 1
+      ∷ commit 1 gets says 1
+      ∷ Begin gets says 2
+      ∷ edit 2 1 0 set (pos 4) gets says 1
+      ∷ commit 2 gets says 2
+      ∷ takes 0 gets says 1
+      ∷ apply 0 lost gets says 0
+      ∷ near false gets yes
+      ∷ Begin gets says 3
+      ∷ read 3 0 gets says 1
+      ∷ read 3 1 gets says 1
+      ∷ [])
+  -- with sixteen cached keys a read that caches nothing, with mark 0 or 2, makes none give way
+  pub fullCache : Plays setup
+      (mapKeys 17
+      ++ (Begin gets says 1
+      ∷ readKeys 16
+      ++ (read 1 15 gets says 0
+      ∷ read 1 15 gets says 0
+      ∷ edit 1 16 0 set (pos 4) gets says 1
+      ∷ read 1 16 gets says 2
+      ∷ read 1 15 gets says 0
+      ∷ [])))
+  -- nor may a row go whose session is buffered no longer and in a hand that has had its reply
+  pub repliedHand : removable (after (overtaken ++ (apply 0 arrives gets says 2 ∷ [])) setup) 1 ≡ false
+  -- a delete leaves a lease that runs on in nobody's name
+  pub nobodysStays : Plays setup
+      (setting 1 1
+      ++ (takes 0 gets says 1
+      ∷ apply 0 arrives gets says 1
+      ∷ advance 300 gets says 300
+      ∷ takes 1 gets says 1
+      ∷ cuts 1 gets yes
+      ∷ delete 0 gets says 1
+      ∷ takes 2 gets no 16
+      ∷ []))
+  -- a list of six shows them all
+  pub sixShown : show (list (pos 1 ∷ pos 2 ∷ pos 3 ∷ pos 4 ∷ pos 5 ∷ pos 6 ∷ [])) ≡ pos 2 ∷ pos 6 ∷ pos 1 ∷ pos 2 ∷ pos 3 ∷ pos 4 ∷ pos 5 ∷ pos 6 ∷ []
+  -- every cached key makes its places known
+  pub everyCached : Plays setup
+      (mapOne 0 (pair 0 0) gets yes
+      ∷ mapOne 1 (pair 1 0) gets yes
+      ∷ mapOne 2 (pair 1 0) gets yes
+      ∷ Begin gets says 1
+      ∷ read 1 0 gets says 1
+      ∷ read 1 1 gets says 1
+      ∷ near false gets yes
+      ∷ read 1 1 gets says 0
+      ∷ read 1 0 gets says 0
+      ∷ read 1 2 gets says 1
+      ∷ [])
+  -- a sweep that may remove a row removes one
+  pub mustSweep : Allowed noPick (after deleted1 setup) → ⊥
+  -- the fates by their numbers
+  pub fates : Plays setup (setting 1 1 ++ (takes 0 gets says 1 ∷ Apply (pos 0) (pos 2) gets says 0 ∷ Apply (pos 0) (pos 1) gets says 0 ∷ Apply (pos 0) (pos 0) gets says 2 ∷ []))
+  -- a member is equal in sign too; set and unset of a list; an add and a push of an absent field
+  pub signs : (change add (negsuc 0) (list (pos 0 ∷ [])) ≡ becomes (list (pos 0 ∷ negsuc 0 ∷ [])))
+      × (change add (pos 0) (list (negsuc 0 ∷ [])) ≡ becomes (list (negsuc 0 ∷ pos 0 ∷ [])))
+      × (change add (negsuc 1) (list (pos 1 ∷ negsuc 1 ∷ [])) ≡ becomes (list (pos 1 ∷ negsuc 1 ∷ [])))
+      × (change pull (negsuc 1) (list (pos 1 ∷ negsuc 0 ∷ negsuc 1 ∷ [])) ≡ becomes (list (pos 1 ∷ negsuc 0 ∷ [])))
+  pub replaced : (change set (pos 5) (list (pos 4 ∷ [])) ≡ becomes (number (pos 5)))
+      × (change unset (pos 0) (list (pos 4 ∷ [])) ≡ becomes absent)
+      × (change push (pos 5) absent ≡ becomes (list (pos 5 ∷ [])))
+      × (change inc (negsuc 2) (number (pos 1)) ≡ becomes (number (negsuc 1)))
+  -- known by any of the own changes, and by any of a buffered session's
+  pub knownByAny : Plays setup
+      (near false gets yes
+      ∷ Begin gets says 1
+      ∷ edit 1 1 0 set (pos 4) gets says 1
+      ∷ edit 1 0 0 unset (pos 0) gets says 2
+      ∷ edit 1 2 0 set (pos 4) gets says 3
+      ∷ edit 1 1 0 inc (pos 1) gets says 4
+      ∷ edit 1 0 0 inc (pos 1) gets says 5
+      ∷ edit 1 2 0 inc (pos 1) gets says 6
+      ∷ commit 1 gets says 1
+      ∷ Begin gets says 2
+      ∷ edit 2 1 0 inc (pos 1) gets says 1
+      ∷ edit 2 0 0 inc (pos 1) gets says 2
+      ∷ edit 2 2 0 inc (pos 1) gets says 3
+      ∷ edit 2 3 0 inc (pos 1) gets no 20
+      ∷ [])
+  -- what is known can be lost: with a delete, or with a dropped key
+  pub knownLost : Plays setup
+      (mapOne 0 (pair 1 0) gets yes
+      ∷ setting 1 1
+      ++ (takes 0 gets says 1
+      ∷ apply 0 arrives gets says 1
+      ∷ begins 2 1
+      ++ (read 2 0 gets says 1
+      ∷ near false gets yes
+      ∷ editOrigin 3 inc (pos 1) gets says 1
+      ∷ edit 3 1 0 inc (pos 1) gets says 2
+      ∷ Abandon (pos 3) gets yes
+      ∷ delete 0 gets says 1
+      ∷ begins 2 3
+      ++ (editOrigin 4 inc (pos 1) gets no 20
+      ∷ read 4 0 gets says 0
+      ∷ advance 300 gets says 300
+      ∷ edit 5 1 0 inc (pos 1) gets no 20
+      ∷ []))))
+  -- 4 by a place that is not the first and by a session between others; it frees what the session held
+  pub exclusiveAnywhere : Plays setup
+      (mapTwo 0 zeros (pair 1 0) gets yes
+      ∷ begins 3 0
+      ++ (edit 2 1 0 set (pos 4) gets says 1
+      ∷ edit 1 5 0 set (pos 4) gets says 1
+      ∷ read 1 0 gets no 4
+      ∷ edit 2 5 0 set (pos 4) gets says 2
+      ∷ read 3 0 gets no 4
+      ∷ report 2 gets (0 ∷ 0 ∷ 2 ∷ 2 ∷ [])
+      ∷ []))
+  -- a commit and an abandon end their session, whose leases are free, and no other
+  pub ends : Plays setup
+      (begins 3 0
+      ++ (editOrigin 1 set (pos 4) gets says 1
+      ∷ edit 2 1 0 set (pos 4) gets says 1
+      ∷ edit 3 2 0 set (pos 4) gets says 1
+      ∷ commit 1 gets says 1
+      ∷ commit 1 gets no 2
+      ∷ Abandon (pos 2) gets yes
+      ∷ commit 2 gets no 2
+      ∷ editOrigin 3 set (pos 4) gets says 2
+      ∷ edit 3 1 0 set (pos 4) gets says 3
+      ∷ report 3 gets (0 ∷ 0 ∷ 3 ∷ 3 ∷ [])
+      ∷ takes 0 gets says 1
+      ∷ apply 0 arrives gets says 1
+      ∷ delete 0 gets says 1
+      ∷ takes 0 gets no 18
+      ∷ []))
+  -- a doomed session's exclusive leases are free
+  pub doomedLoses : Plays setup
+      (mapOrigin gets yes
+      ∷ begins 2 0
+      ++ (edit 1 5 0 set (pos 4) gets says 1
+      ∷ read 1 0 gets says 1
+      ∷ editOrigin 2 set (pos 4) gets says 1
+      ∷ edit 2 5 0 set (pos 4) gets says 2
+      ∷ []))
+  -- only the clock drops cached keys: not doom, 4, commit and abandon, nor the lapse of a session that was doomed before
+  pub onlyLapsesDrop : Plays setup
+      (mapOrigin gets yes
+      ∷ mapOne 1 (pair 1 0) gets yes
+      ∷ begins 4 0
+      ++ (read 1 0 gets says 1
+      ∷ read 4 1 gets says 1
+      ∷ Abandon (pos 4) gets yes
+      ∷ editOrigin 2 set (pos 4) gets says 1
+      ∷ read 3 0 gets no 4
+      ∷ commit 2 gets says 1
+      ∷ advance 300 gets says 300
+      ∷ Begin gets says 5
+      ∷ read 5 0 gets says 0
+      ∷ read 5 1 gets says 0
+      ∷ report 1 gets no 3
+      ∷ []))
+  -- a delete of a session that is gone leaves the others in the buffer
+  pub goneSpares : Plays setup
+      (slow1
+      ++ setting 2 1
+      ++ (apply 0 arrives gets says 2
+      ∷ delete 0 gets says 0
+      ∷ takes 2 gets says 2
+      ∷ []))
+  -- a row stays while its session is in any hand, and while it is buffered though a cut has emptied the hand
+  pub lastHand : (removable (after lastHand3 setup) 1 ≡ false)
+      × (removable (after (lastHand3 ++ (cuts 3 gets yes ∷ [])) setup) 1 ≡ true)
+      × (removable (after (applied1 ++ (cuts 0 gets yes ∷ [])) setup) 1 ≡ false)
+  -- a choice of rows: not one that is buffered, not one that does not stand, none twice
+  pub noChoices : (Allowed (record { gives = 0; swept = 1 ∷ [] }) (after applied1 setup) → ⊥)
+      × (Allowed (record { gives = 0; swept = 2 ∷ [] }) (after deleted1 setup) → ⊥)
+      × (Allowed (record { gives = 0; swept = 1 ∷ 1 ∷ [] }) (after deleted1 setup) → ⊥)
+  -- a lost apply that finds 48 rows does nothing; a change carried once is shown once, before and after the delete
+  pub fullRowsLeave : (after (apply 0 lost gets says 0 ∷ []) (handWithRows 2 48)) .store origin ≡ absent
+  pub shownOnce : (step (read 2 0) (replicate 8 (pos 9)) noPick (after (carriedOnce ++ (Begin gets says 2 ∷ [])) setup)) .words
+      ≡ pos 1 ∷ pos 1 ∷ pos 75 ∷ pos 0 ∷ pos 0 ∷ pos 0 ∷ pos 0 ∷ pos 0 ∷ []
   -- ── the paper's numbers ──
   pub limits : documentCount ∷ fieldCount ∷ keyCount ∷ placeLimit ∷ memberLimit ∷ cacheLimit ∷ slotLimit ∷ changeLimit ∷ bufferLimit ∷ rowLimit
       ∷ workerCount ∷ sweepLimit ∷ wordsPerField ∷ leaseTicks ∷ sessionTicks ∷ advanceLimit ∷ lastTick ∷ firstSession ∷ lastSession ∷ []
@@ -698,7 +801,7 @@ pub record Runs : Type 0 where
 
 -- by computing
 pub runs : Runs
-unfolding setup step conditions accepted mapped loaded begun afterRead cacheAfter onlyAt changed committed abandoned grant lapse advanced taken applied carried deleted cut swept meets updated change member pullFirst putLast fits32 outcomeRefusal fieldOf fieldAfter pushed _⇒_ documents withLast withExclusive lapses loses isLost inDocuments stays showsIt sets kept initial emptyHistory note
+unfolding setup step conditions accepted mapped loaded begun afterRead cacheAfter onlyAt changed committed abandoned grant lapse advanced taken applied carried deleted cut swept meets updated change member pullFirst putLast fits32 outcomeRefusal fieldOf fieldAfter pushed _⇒_ documents withLast withExclusive lapses loses isLost inDocuments stays showsIt sets kept
 runs =
     record {
       range = refl;
@@ -754,18 +857,34 @@ runs =
       cachedKnown = refl;
       abandonAway = refl;
       leaseKept = refl;
-      orderLoad = refl;
-      orderMap = refl;
-      orderBegin = refl;
-      orderRead = refl;
-      orderWords = refl;
-      orderChange = refl;
-      orderAway = refl;
-      orderCommit = refl;
-      orderAdvance = refl;
-      orderApply = refl;
-      pages = refl;
-      startAndNotes = (refl, refl, refl, refl);
+      negatives = refl;
+      wideSession = refl;
+      addToNumber = refl;
+      emptyShown = refl;
+      lapseTogether = refl;
+      goneLease = refl;
+      markByAny = refl;
+      bufferedKnown = refl;
+      fullCache = refl;
+      repliedHand = refl;
+      nobodysStays = refl;
+      sixShown = refl;
+      everyCached = refl;
+      mustSweep = λ a. absurd (true≢false (a .atLeast refl));
+      fates = refl;
+      signs = (refl, refl, refl, refl);
+      replaced = (refl, refl, refl, refl);
+      knownByAny = refl;
+      knownLost = refl;
+      exclusiveAnywhere = refl;
+      ends = refl;
+      doomedLoses = refl;
+      onlyLapsesDrop = refl;
+      goneSpares = refl;
+      lastHand = (refl, refl, refl);
+      noChoices = (λ a. false≢true (a .removes), λ a. false≢true (a .removes), λ a. false≢true (a .once));
+      fullRowsLeave = refl;
+      shownOnce = refl;
       limits = refl;
       choices = λ pick p a. (a .oneOfSixteen, a .atMost);
       refusals = refl;

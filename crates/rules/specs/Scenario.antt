@@ -1,17 +1,17 @@
 -- Runs of calls with their answer lines, for the tables of worked examples.
-use Prim.Native.Nat.{_*_, ℕ}
+use Prim.Native.Nat.{_*_, suc, zero, ℕ}
 use mathlib.Core.Path.{_≡_}
 use mathlib.Core.Bool.{Bool}
-use mathlib.Core.List.{List, [], _∷_, map}
+use mathlib.Core.List.{List, [], _++_, _∷_, map}
 use lib.ListN.{replicate}
 use lib.IntN.{pos, ℤ}
-use Rattle.rules.specs.Lists.{bit}
+use Rattle.rules.specs.Lists.{bit, span}
 use Rattle.rules.specs.Limits.{placeLimit, wordsPerField}
 use Rattle.rules.specs.Refusals.{refusalNumber}
 use Rattle.rules.specs.Values.{Place}
-use Rattle.rules.specs.Changes.{Kind, set, kindNumber}
-use Rattle.rules.specs.Tables.{Plant}
-use Rattle.rules.specs.Calls.{Pair, Fate, fateNumber, Call, Load, Map, Begin, Read, Change, Commit, Advance, Take, Apply, Delete, Cut, Store, Report, Answer, refused, fine, Result}
+use Rattle.rules.specs.Changes.{Kind, set, push, kindNumber}
+use Rattle.rules.specs.Tables.{Plant, setup, withRows}
+use Rattle.rules.specs.Calls.{Pair, Fate, arrives, lost, fateNumber, Call, Load, Map, Begin, Read, Change, Commit, Advance, Take, Apply, Delete, Cut, Store, Report, Answer, refused, fine, Result, Pick}
 use Rattle.rules.specs.Step.{step}
 
 -- ── a call and its answer line ──
@@ -40,8 +40,11 @@ lineOf (fine ns) = 0 ∷ ns
 
 -- ── runs ──
 -- no choice is made in these runs; the longest key's words are lent
+abbrev pub noPick : Pick
+noPick = record { gives = 0; swept = [] }
+
 abbrev pub alone : Call → Plant → Result
-alone c p = step c (replicate (wordsPerField * placeLimit) (pos 0)) (record { gives = 0; swept = [] }) p
+alone c p = step c (replicate (wordsPerField * placeLimit) (pos 0)) noPick p
 
 abbrev pub answers : List Line → Plant → List (List ℕ)
 answers [] p = []
@@ -115,3 +118,62 @@ editOrigin s k v = edit s 0 0 k v
 -- session n sets the origin and commits, the b-th buffered
 abbrev pub setting : ℕ → ℕ → List Line
 setting n b = Begin gets says n ∷ editOrigin n set (pos 5) gets says 1 ∷ commit n gets says b ∷ []
+
+-- ── runs that others begin with ──
+-- n begins after k
+abbrev pub begins : ℕ → ℕ → List Line
+begins zero k = []
+begins (suc n) k = Begin gets says (suc k) ∷ begins n (suc k)
+
+-- session s's next n sets of the origin, after k
+abbrev pub setsBy : ℕ → ℕ → ℕ → List Line
+setsBy s zero k = []
+setsBy s (suc n) k = editOrigin s set (pos 0) gets says (suc k) ∷ setsBy s n (suc k)
+
+-- n pushes of 1 to a field
+abbrev pub pushes : ℕ → ℕ → ℕ → List Line
+pushes d f zero = []
+pushes d f (suc n) = load d f push (pos 1) gets yes ∷ pushes d f n
+
+-- keys 0 to n - 1, each with its own document, and reads of them by session 1 that cache them
+abbrev pub mapKeys : ℕ → List Line
+mapKeys zero = []
+mapKeys (suc n) = mapOne n (pair n 0) gets yes ∷ mapKeys n
+
+abbrev pub readKeys : ℕ → List Line
+readKeys zero = []
+readKeys (suc n) = read 1 n gets says 1 ∷ readKeys n
+
+-- session 1 in worker 0's hand, and k rows from n on
+abbrev pub handWithRows : ℕ → ℕ → Plant
+handWithRows n k = withRows (span n k) (after (setting 1 1 ++ (takes 0 gets says 1 ∷ [])) setup)
+
+-- session 1 applied by worker 0, and deleted from the buffer
+abbrev pub applied1 : List Line
+applied1 = setting 1 1 ++ (takes 0 gets says 1 ∷ apply 0 arrives gets says 1 ∷ [])
+
+abbrev pub deleted1 : List Line
+deleted1 = applied1 ++ (delete 0 gets says 1 ∷ [])
+
+-- session 1 applied by worker 0, whose reply is lost and who is slow; then by worker 1
+abbrev pub slow1 : List Line
+slow1 =
+    setting 1 1
+    ++ (takes 0 gets says 1
+    ∷ apply 0 lost gets says 0
+    ∷ advance 300 gets says 300
+    ∷ takes 1 gets says 1
+    ∷ apply 1 arrives gets says 2
+    ∷ delete 1 gets says 1
+    ∷ [])
+
+-- session 1 applied by worker 1, taken by worker 0 with a live lease, and deleted by worker 1
+abbrev pub overtaken : List Line
+overtaken =
+    setting 1 1
+    ++ (takes 1 gets says 1
+    ∷ apply 1 arrives gets says 1
+    ∷ advance 300 gets says 300
+    ∷ takes 0 gets says 1
+    ∷ delete 1 gets says 1
+    ∷ [])

@@ -4,6 +4,9 @@ use Rattle.rules.specs.Claims.{RefusalsLeave, EndsSession, SparesSession
 use Rattle.rules.specs.Demand3.{Demand3}
 use Rattle.rules.specs.Edges.{Edges, PaperRun}
 use Rattle.rules.specs.Runs.{Runs}
+use Rattle.rules.specs.Orders.{Orders}
+use Rattle.rules.specs.Bounds.{Bounds}
+use Rattle.rules.specs.Histories.{Histories}
 
 pub record Theorem : Type 0 where
   -- demand 1
@@ -32,3 +35,6 @@ pub record Theorem : Type 0 where
   pub edges : Edges
   pub paperRun : PaperRun
   pub runs : Runs
+  pub orders : Orders
+  pub bounds : Bounds
+  pub histories : Histories
