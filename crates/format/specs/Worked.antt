@@ -2,7 +2,7 @@
 use Prim.Native.Nat.{_-_, ℕ}
 use mathlib.Core.Path.{_≡_, refl}
 use mathlib.Core.List.{List, [], _++_, _∷_}
-use lib.ListN.{length, replicate}
+use lib.ListN.{length, replicate, take}
 use lib.IntN.{negsuc, pos}
 use Rattle.rules.specs.Lists.{pushed}
 use Rattle.rules.specs.Refusals.{badLine, outOfRange, _⇒_}
@@ -16,6 +16,7 @@ use Rattle.rules.specs.Step.{accepted, step}
 use Rattle.format.specs.Columns.{naturalIn, integerIn, column}
 use Rattle.format.specs.Lines.{says, faulty, said, answerLine}
 use Rattle.format.specs.Serving.{serve, linesOf}
+use Rattle.format.specs.Feeding.{complete, unended, lastLine}
 
 -- ── lines by their bytes ──
 -- bytes at the right of so many columns
@@ -39,6 +40,10 @@ rows (l ∷ ls) = l ++ (10 ∷ []) ++ rows ls
 abbrev pub prints : List (List ℕ) → Plant → List ℕ
 prints [] p = []
 prints (l ∷ ls) p = (serve l (record { gives = 0; swept = [] }) p) .bytes ++ prints ls ((serve l (record { gives = 0; swept = [] }) p) .plant)
+
+-- a line without its last byte
+abbrev pub cutLast : List ℕ → List ℕ
+cutLast l = take (length l - 1) l
 
 pub record Worked : Type 0 where
   -- the run that the paper prints
@@ -98,6 +103,16 @@ pub record Worked : Type 0 where
       × (said (32 ∷ 54 ∷ 32 ∷ 32 ∷ 32 ∷ 32 ∷ 32 ∷ 32 ∷ 32 ∷ 32 ∷ 32 ∷ 32 ∷ 32 ∷ 45 ∷ []) ≡ faulty badLine)
       × (said (32 ∷ 54 ∷ 32 ∷ 32 ∷ 32 ∷ 32 ∷ 32 ∷ 32 ∷ 32 ∷ 32 ∷ 32 ∷ 32 ∷ 9 ∷ 49 ∷ []) ≡ faulty badLine)
       × (said (32 ∷ 54 ∷ 32 ∷ 32 ∷ 32 ∷ 32 ∷ 32 ∷ 32 ∷ 32 ∷ 32 ∷ 32 ∷ 32 ∷ 49 ∷ 32 ∷ []) ≡ faulty badLine)
+  -- 23: bytes beside those of digits and spaces
+  pub neighbours : (said (32 ∷ 54 ∷ 32 ∷ 32 ∷ 32 ∷ 32 ∷ 32 ∷ 32 ∷ 32 ∷ 32 ∷ 32 ∷ 32 ∷ 49 ∷ 58 ∷ []) ≡ faulty badLine)
+      × (said (32 ∷ 54 ∷ 32 ∷ 32 ∷ 32 ∷ 32 ∷ 32 ∷ 32 ∷ 32 ∷ 32 ∷ 32 ∷ 32 ∷ 32 ∷ 47 ∷ []) ≡ faulty badLine)
+      × (said (32 ∷ 54 ∷ 32 ∷ 32 ∷ 32 ∷ 32 ∷ 32 ∷ 32 ∷ 32 ∷ 32 ∷ 32 ∷ 32 ∷ 49 ∷ 47 ∷ []) ≡ faulty badLine)
+      × (said (32 ∷ 54 ∷ 32 ∷ 32 ∷ 32 ∷ 32 ∷ 32 ∷ 32 ∷ 32 ∷ 32 ∷ 32 ∷ 32 ∷ 0 ∷ 49 ∷ []) ≡ faulty badLine)
+      × (said (32 ∷ 54 ∷ 0 ∷ 32 ∷ 32 ∷ 32 ∷ 32 ∷ 32 ∷ 32 ∷ 32 ∷ 32 ∷ 32 ∷ 32 ∷ 49 ∷ []) ≡ faulty badLine)
+      × (said (32 ∷ 54 ∷ 32 ∷ 32 ∷ 32 ∷ 32 ∷ 32 ∷ 32 ∷ 32 ∷ 32 ∷ 32 ∷ 32 ∷ 32 ∷ 176 ∷ []) ≡ faulty badLine)
+      × (said (49 ∷ 58 ∷ []) ≡ faulty badLine)
+      × (said (32 ∷ 47 ∷ []) ≡ faulty badLine)
+      × (said (0 ∷ 51 ∷ []) ≡ faulty badLine)
   -- 23: too few, too many, or bytes after the last
   pub counts : (said (32 ∷ 54 ∷ []) ≡ faulty badLine)
       × (said (32 ∷ 54 ∷ 32 ∷ 32 ∷ 32 ∷ 32 ∷ 32 ∷ 32 ∷ 32 ∷ 32 ∷ 32 ∷ 32 ∷ 49 ∷ []) ≡ faulty badLine)
@@ -105,6 +120,27 @@ pub record Worked : Type 0 where
       × (said (32 ∷ 54 ∷ 32 ∷ 32 ∷ 32 ∷ 32 ∷ 32 ∷ 32 ∷ 32 ∷ 32 ∷ 32 ∷ 32 ∷ 32 ∷ 49 ∷ 32 ∷ []) ≡ faulty badLine)
       × (said (32 ∷ 51 ∷ 32 ∷ []) ≡ faulty badLine)
       × (said (32 ∷ 51 ∷ 13 ∷ []) ≡ faulty badLine)
+  -- 23: a minus or a space after a digit, a minus before a leading zero, a byte between digits that is none, a tab or a letter in the call column
+  pub inside : (said (32 ∷ 54 ∷ 32 ∷ 32 ∷ 32 ∷ 32 ∷ 32 ∷ 32 ∷ 32 ∷ 32 ∷ 32 ∷ 32 ∷ 49 ∷ 45 ∷ []) ≡ faulty badLine)
+      × (said (32 ∷ 54 ∷ 32 ∷ 32 ∷ 32 ∷ 32 ∷ 32 ∷ 32 ∷ 32 ∷ 32 ∷ 32 ∷ 49 ∷ 32 ∷ 49 ∷ []) ≡ faulty badLine)
+      × (said (32 ∷ 54 ∷ 32 ∷ 32 ∷ 32 ∷ 32 ∷ 32 ∷ 32 ∷ 32 ∷ 32 ∷ 32 ∷ 45 ∷ 48 ∷ 55 ∷ []) ≡ faulty badLine)
+      × (said (32 ∷ 54 ∷ 32 ∷ 32 ∷ 32 ∷ 32 ∷ 32 ∷ 32 ∷ 32 ∷ 32 ∷ 32 ∷ 49 ∷ 97 ∷ 49 ∷ []) ≡ faulty badLine)
+      × (said (9 ∷ 51 ∷ []) ≡ faulty badLine)
+      × (said (32 ∷ 97 ∷ []) ≡ faulty badLine)
+      × (said (51 ∷ 97 ∷ []) ≡ faulty badLine)
+  -- zeros that do not lead
+  pub zeros : (said (row (54 ∷ []) ((48 ∷ []) ∷ [])) ≡ says (Commit (pos 0)))
+      × (said (row (54 ∷ []) ((49 ∷ 48 ∷ 48 ∷ 50 ∷ 48 ∷ 48 ∷ []) ∷ [])) ≡ says (Commit (pos 100200)))
+      × (said (row (54 ∷ []) ((45 ∷ 49 ∷ 48 ∷ []) ∷ [])) ≡ says (Commit (negsuc 9)))
+  -- numbers that fill their columns stand side by side
+  pub sideBySide : said (row (49 ∷ []) ((57 ∷ 57 ∷ 57 ∷ 57 ∷ 57 ∷ 57 ∷ 57 ∷ 57 ∷ 57 ∷ 57 ∷ 57 ∷ 57 ∷ []) ∷ (45 ∷ 57 ∷ 57 ∷ 57 ∷ 57 ∷ 57 ∷ 57 ∷ 57 ∷ 57 ∷ 57 ∷ 57 ∷ 57 ∷ []) ∷ (49 ∷ 48 ∷ 48 ∷ 48 ∷ 48 ∷ 48 ∷ 48 ∷ 48 ∷ 48 ∷ 48 ∷ 48 ∷ 48 ∷ []) ∷ (45 ∷ 57 ∷ 57 ∷ 57 ∷ 57 ∷ 57 ∷ 57 ∷ 57 ∷ 57 ∷ 57 ∷ 57 ∷ 57 ∷ []) ∷ [])) ≡ says (Load (pos 999999999999) (negsuc 99999999998) (pos 100000000000) (negsuc 99999999998))
+  -- 23 comes before 1, of the first number or of the last
+  pub formFirst : (said (row (49 ∷ []) ((54 ∷ 52 ∷ []) ∷ (48 ∷ []) ∷ (49 ∷ []) ∷ (45 ∷ 48 ∷ []) ∷ [])) ≡ faulty badLine)
+      × (said (row (49 ∷ []) ((45 ∷ 48 ∷ []) ∷ (48 ∷ []) ∷ (57 ∷ []) ∷ (49 ∷ []) ∷ [])) ≡ faulty badLine)
+      × (said (row (56 ∷ []) ((54 ∷ 53 ∷ 53 ∷ 51 ∷ 54 ∷ []) ∷ []) ++ (32 ∷ [])) ≡ faulty badLine)
+  -- the longest line in form, one byte less and one byte more
+  pub longest : (said (cutLast (row (50 ∷ []) ((48 ∷ []) ∷ (49 ∷ []) ∷ (48 ∷ []) ∷ (48 ∷ []) ∷ (48 ∷ []) ∷ (48 ∷ []) ∷ (48 ∷ []) ∷ (48 ∷ []) ∷ (48 ∷ []) ∷ (48 ∷ []) ∷ []))) ≡ faulty badLine)
+      × (said (row (50 ∷ []) ((48 ∷ []) ∷ (49 ∷ []) ∷ (48 ∷ []) ∷ (48 ∷ []) ∷ (48 ∷ []) ∷ (48 ∷ []) ∷ (48 ∷ []) ∷ (48 ∷ []) ∷ (48 ∷ []) ∷ (48 ∷ []) ∷ []) ++ (49 ∷ [])) ≡ faulty badLine)
   -- 1: a call that there is not, whatever follows
   pub unknown : (said (32 ∷ 48 ∷ []) ≡ faulty outOfRange)
       × (said (49 ∷ 54 ∷ []) ≡ faulty outOfRange)
@@ -116,6 +152,9 @@ pub record Worked : Type 0 where
       × (answerLine (fine []) [] ≡ (32 ∷ 48 ∷ []))
       × (answerLine (fine (2 ∷ 10 ∷ 99999999999 ∷ [])) [] ≡ row (48 ∷ []) ((50 ∷ []) ∷ (49 ∷ 48 ∷ []) ∷ (57 ∷ 57 ∷ 57 ∷ 57 ∷ 57 ∷ 57 ∷ 57 ∷ 57 ∷ 57 ∷ 57 ∷ 57 ∷ []) ∷ []))
       × (answerLine (fine (1 ∷ [])) (pos 0 ∷ negsuc 0 ∷ negsuc 2147483647 ∷ []) ≡ row (48 ∷ []) ((49 ∷ []) ∷ (48 ∷ []) ∷ (45 ∷ 49 ∷ []) ∷ (45 ∷ 50 ∷ 49 ∷ 52 ∷ 55 ∷ 52 ∷ 56 ∷ 51 ∷ 54 ∷ 52 ∷ 56 ∷ []) ∷ []))
+  -- answers that fill their columns, and the ends of a session's number and of 32 bits
+  pub wide : answerLine (fine (999999999999 ∷ 4294967295 ∷ 100 ∷ [])) (negsuc 99999999998 ∷ pos 2147483647 ∷ negsuc 9 ∷ [])
+      ≡ row (48 ∷ []) ((57 ∷ 57 ∷ 57 ∷ 57 ∷ 57 ∷ 57 ∷ 57 ∷ 57 ∷ 57 ∷ 57 ∷ 57 ∷ 57 ∷ []) ∷ (52 ∷ 50 ∷ 57 ∷ 52 ∷ 57 ∷ 54 ∷ 55 ∷ 50 ∷ 57 ∷ 53 ∷ []) ∷ (49 ∷ 48 ∷ 48 ∷ []) ∷ (45 ∷ 57 ∷ 57 ∷ 57 ∷ 57 ∷ 57 ∷ 57 ∷ 57 ∷ 57 ∷ 57 ∷ 57 ∷ 57 ∷ []) ∷ (50 ∷ 49 ∷ 52 ∷ 55 ∷ 52 ∷ 56 ∷ 51 ∷ 54 ∷ 52 ∷ 55 ∷ []) ∷ (45 ∷ 49 ∷ 48 ∷ []) ∷ [])
   -- inputs cut into lines: none, an empty one, one that the end of input ends, none after a last byte 10
   pub inputs : (linesOf [] ≡ [])
       × (linesOf (10 ∷ []) ≡ [] ∷ [])
@@ -137,6 +176,48 @@ pub record Worked : Type 0 where
       ∷ row (48 ∷ []) ((49 ∷ []) ∷ (50 ∷ []) ∷ (49 ∷ []) ∷ (45 ∷ 52 ∷ []) ∷ (48 ∷ []) ∷ (48 ∷ []) ∷ (48 ∷ []) ∷ (48 ∷ []) ∷ (48 ∷ []) ∷ (48 ∷ []) ∷ (48 ∷ []) ∷ (48 ∷ []) ∷ (48 ∷ []) ∷ (48 ∷ []) ∷ (48 ∷ []) ∷ (48 ∷ []) ∷ (48 ∷ []) ∷ [])
       ∷ row (57 ∷ []) []
       ∷ [])
+  -- lines that are refused before the plant is asked leave it, and so do calls out of range
+  pub refusedLines : prints (
+      row (49 ∷ []) ((48 ∷ []) ∷ (48 ∷ []) ∷ (49 ∷ []) ∷ (45 ∷ 48 ∷ []) ∷ [])
+      ∷ []
+      ∷ (32 ∷ 48 ∷ [])
+      ∷ row (49 ∷ []) ((54 ∷ 52 ∷ []) ∷ (48 ∷ []) ∷ (49 ∷ []) ∷ (53 ∷ []) ∷ [])
+      ∷ row (51 ∷ []) []
+      ∷ []) setup
+      ≡ rows
+      (row (50 ∷ 51 ∷ []) []
+      ∷ row (50 ∷ 51 ∷ []) []
+      ∷ row (49 ∷ []) []
+      ∷ row (49 ∷ []) []
+      ∷ row (48 ∷ []) ((49 ∷ []) ∷ [])
+      ∷ [])
+  -- a key of one place shows eight words, one of four 32, for which the line lends enough
+  pub keysShown : prints (
+      row (49 ∷ []) ((48 ∷ []) ∷ (49 ∷ []) ∷ (49 ∷ []) ∷ (55 ∷ []) ∷ [])
+      ∷ row (49 ∷ []) ((48 ∷ []) ∷ (51 ∷ []) ∷ (52 ∷ []) ∷ (45 ∷ 53 ∷ []) ∷ [])
+      ∷ row (50 ∷ []) ((48 ∷ []) ∷ (49 ∷ []) ∷ (48 ∷ []) ∷ (49 ∷ []) ∷ (48 ∷ []) ∷ (48 ∷ []) ∷ (48 ∷ []) ∷ (48 ∷ []) ∷ (48 ∷ []) ∷ (48 ∷ []) ∷ [])
+      ∷ row (50 ∷ []) ((49 ∷ []) ∷ (52 ∷ []) ∷ (48 ∷ []) ∷ (48 ∷ []) ∷ (48 ∷ []) ∷ (49 ∷ []) ∷ (48 ∷ []) ∷ (50 ∷ []) ∷ (48 ∷ []) ∷ (51 ∷ []) ∷ [])
+      ∷ row (51 ∷ []) []
+      ∷ row (52 ∷ []) ((49 ∷ []) ∷ (48 ∷ []) ∷ [])
+      ∷ row (52 ∷ []) ((49 ∷ []) ∷ (49 ∷ []) ∷ [])
+      ∷ []) setup
+      ≡ rows
+      (row (48 ∷ []) []
+      ∷ row (48 ∷ []) []
+      ∷ row (48 ∷ []) []
+      ∷ row (48 ∷ []) []
+      ∷ row (48 ∷ []) ((49 ∷ []) ∷ [])
+      ∷ row (48 ∷ []) ((49 ∷ []) ∷ (49 ∷ []) ∷ (49 ∷ []) ∷ (55 ∷ []) ∷ (48 ∷ []) ∷ (48 ∷ []) ∷ (48 ∷ []) ∷ (48 ∷ []) ∷ (48 ∷ []) ∷ [])
+      ∷ row (48 ∷ []) ((49 ∷ []) ∷ (48 ∷ []) ∷ (48 ∷ []) ∷ (48 ∷ []) ∷ (48 ∷ []) ∷ (48 ∷ []) ∷ (48 ∷ []) ∷ (48 ∷ []) ∷ (48 ∷ []) ∷ (49 ∷ []) ∷ (49 ∷ []) ∷ (55 ∷ []) ∷ (48 ∷ []) ∷ (48 ∷ []) ∷ (48 ∷ []) ∷ (48 ∷ []) ∷ (48 ∷ []) ∷ (48 ∷ []) ∷ (48 ∷ []) ∷ (48 ∷ []) ∷ (48 ∷ []) ∷ (48 ∷ []) ∷ (48 ∷ []) ∷ (48 ∷ []) ∷ (48 ∷ []) ∷ (50 ∷ []) ∷ (49 ∷ []) ∷ (45 ∷ 53 ∷ []) ∷ (48 ∷ []) ∷ (48 ∷ []) ∷ (48 ∷ []) ∷ (48 ∷ []) ∷ (48 ∷ []) ∷ [])
+      ∷ [])
+  -- an input in pieces: the lines that are ended, and what follows the last byte 10
+  pub pieces : (complete (51 ∷ 10 ∷ 10 ∷ 52 ∷ 53 ∷ []) ≡ (51 ∷ []) ∷ [] ∷ [])
+      × (unended (51 ∷ 10 ∷ 10 ∷ 52 ∷ 53 ∷ []) ≡ 52 ∷ 53 ∷ [])
+      × (complete (51 ∷ 52 ∷ []) ≡ [])
+      × (unended (51 ∷ 52 ∷ []) ≡ 51 ∷ 52 ∷ [])
+      × (unended (51 ∷ 10 ∷ []) ≡ [])
+      × (lastLine [] ≡ [])
+      × (lastLine (51 ∷ 52 ∷ []) ≡ (51 ∷ 52 ∷ []) ∷ [])
 
 -- by computing
 pub worked : Worked
@@ -164,9 +245,19 @@ worked =
       short = (refl, refl, refl);
       callColumn = (refl, refl, refl, refl, refl, refl);
       numbers = (refl, refl, refl, refl, refl, refl, refl, refl, refl, refl);
+      neighbours = (refl, refl, refl, refl, refl, refl, refl, refl, refl);
       counts = (refl, refl, refl, refl, refl, refl);
+      inside = (refl, refl, refl, refl, refl, refl, refl);
+      zeros = (refl, refl, refl);
+      sideBySide = refl;
+      formFirst = (refl, refl, refl);
+      longest = (refl, refl);
       unknown = (refl, refl, refl, refl);
       answers = (refl, refl, refl, refl, refl);
+      wide = refl;
       inputs = (refl, refl, refl, refl, refl);
       reads = refl;
+      refusedLines = refl;
+      keysShown = refl;
+      pieces = (refl, refl, refl, refl, refl, refl, refl);
     }
