@@ -8,11 +8,12 @@ use Rattle.rules.specs.Lists.{pushed}
 use Rattle.rules.specs.Refusals.{badLine, outOfRange, _⇒_}
 use Rattle.rules.specs.Values.{fits32}
 use Rattle.rules.specs.Changes.{change, putLast, outcomeRefusal, fieldOf, meets, updated, fieldAfter}
-use Rattle.rules.specs.Tables.{Plant, setup}
+use Rattle.rules.specs.Tables.{documents, Plant, setup}
 use Rattle.rules.specs.Calls.{Load, Map, Begin, Read, Change, Commit, Abandon, Advance, Take, Apply, Delete, Cut, Sweep, Store, Report, refused, fine}
 use Rattle.rules.specs.Conditions.{conditions}
-use Rattle.rules.specs.Effects.{loaded, mapped, begun, cacheAfter, onlyAt, afterRead, withExclusive, withLast, grant, changed, committed, taken, carried, applied}
+use Rattle.rules.specs.Effects.{loaded, mapped, begun, cacheAfter, onlyAt, afterRead, withExclusive, withLast, grant, changed, committed, abandoned, lapses, lapse, loses, isLost, inDocuments, stays, advanced, taken, carried, applied, deleted, cut, swept}
 use Rattle.rules.specs.Step.{accepted, step}
+use Rattle.format.specs.Bytes.{lineLimit}
 use Rattle.format.specs.Columns.{naturalIn, integerIn, column}
 use Rattle.format.specs.Lines.{says, faulty, said, answerLine}
 use Rattle.format.specs.Serving.{serve, linesOf}
@@ -141,6 +142,9 @@ pub record Worked : Type 0 where
   -- the longest line in form, one byte less and one byte more
   pub longest : (said (cutLast (row (50 ∷ []) ((48 ∷ []) ∷ (49 ∷ []) ∷ (48 ∷ []) ∷ (48 ∷ []) ∷ (48 ∷ []) ∷ (48 ∷ []) ∷ (48 ∷ []) ∷ (48 ∷ []) ∷ (48 ∷ []) ∷ (48 ∷ []) ∷ []))) ≡ faulty badLine)
       × (said (row (50 ∷ []) ((48 ∷ []) ∷ (49 ∷ []) ∷ (48 ∷ []) ∷ (48 ∷ []) ∷ (48 ∷ []) ∷ (48 ∷ []) ∷ (48 ∷ []) ∷ (48 ∷ []) ∷ (48 ∷ []) ∷ (48 ∷ []) ∷ []) ++ (49 ∷ [])) ≡ faulty badLine)
+  -- what is kept of a line that has begun: 122 bytes tell a map, and one more tells that it is too long
+  pub lengths : (length (row (50 ∷ []) ((48 ∷ []) ∷ (49 ∷ []) ∷ (48 ∷ []) ∷ (48 ∷ []) ∷ (48 ∷ []) ∷ (48 ∷ []) ∷ (48 ∷ []) ∷ (48 ∷ []) ∷ (48 ∷ []) ∷ (48 ∷ []) ∷ [])) ≡ 122)
+      × (lineLimit ≡ 123)
   -- 1: a call that there is not, whatever follows
   pub unknown : (said (32 ∷ 48 ∷ []) ≡ faulty outOfRange)
       × (said (49 ∷ 54 ∷ []) ≡ faulty outOfRange)
@@ -210,6 +214,39 @@ pub record Worked : Type 0 where
       ∷ row (48 ∷ []) ((49 ∷ []) ∷ (49 ∷ []) ∷ (49 ∷ []) ∷ (55 ∷ []) ∷ (48 ∷ []) ∷ (48 ∷ []) ∷ (48 ∷ []) ∷ (48 ∷ []) ∷ (48 ∷ []) ∷ [])
       ∷ row (48 ∷ []) ((49 ∷ []) ∷ (48 ∷ []) ∷ (48 ∷ []) ∷ (48 ∷ []) ∷ (48 ∷ []) ∷ (48 ∷ []) ∷ (48 ∷ []) ∷ (48 ∷ []) ∷ (48 ∷ []) ∷ (49 ∷ []) ∷ (49 ∷ []) ∷ (55 ∷ []) ∷ (48 ∷ []) ∷ (48 ∷ []) ∷ (48 ∷ []) ∷ (48 ∷ []) ∷ (48 ∷ []) ∷ (48 ∷ []) ∷ (48 ∷ []) ∷ (48 ∷ []) ∷ (48 ∷ []) ∷ (48 ∷ []) ∷ (48 ∷ []) ∷ (48 ∷ []) ∷ (48 ∷ []) ∷ (50 ∷ []) ∷ (49 ∷ []) ∷ (45 ∷ 53 ∷ []) ∷ (48 ∷ []) ∷ (48 ∷ []) ∷ (48 ∷ []) ∷ (48 ∷ []) ∷ (48 ∷ []) ∷ [])
       ∷ [])
+  -- the calls that the paper's run has not, and those that answer 0 alone
+  pub others : prints (
+      row (56 ∷ []) ((53 ∷ []) ∷ [])
+      ∷ row (49 ∷ 52 ∷ []) ((48 ∷ []) ∷ [])
+      ∷ row (49 ∷ 52 ∷ []) ((49 ∷ []) ∷ [])
+      ∷ row (49 ∷ 51 ∷ []) []
+      ∷ row (49 ∷ 50 ∷ []) ((51 ∷ []) ∷ [])
+      ∷ row (51 ∷ []) []
+      ∷ row (49 ∷ 53 ∷ []) ((49 ∷ []) ∷ [])
+      ∷ row (53 ∷ []) ((49 ∷ []) ∷ (48 ∷ []) ∷ (48 ∷ []) ∷ (49 ∷ []) ∷ (53 ∷ []) ∷ [])
+      ∷ row (54 ∷ []) ((49 ∷ []) ∷ [])
+      ∷ row (57 ∷ []) ((48 ∷ []) ∷ [])
+      ∷ row (49 ∷ 48 ∷ []) ((48 ∷ []) ∷ (48 ∷ []) ∷ [])
+      ∷ row (49 ∷ 49 ∷ []) ((48 ∷ []) ∷ [])
+      ∷ row (51 ∷ []) []
+      ∷ row (55 ∷ []) ((50 ∷ []) ∷ [])
+      ∷ []) setup
+      ≡ rows
+      (row (48 ∷ []) ((53 ∷ []) ∷ [])
+      ∷ row (48 ∷ []) []
+      ∷ row (48 ∷ []) []
+      ∷ row (48 ∷ []) ((48 ∷ []) ∷ [])
+      ∷ row (48 ∷ []) []
+      ∷ row (48 ∷ []) ((49 ∷ []) ∷ [])
+      ∷ row (48 ∷ []) ((48 ∷ []) ∷ (48 ∷ []) ∷ (48 ∷ []) ∷ [])
+      ∷ row (48 ∷ []) ((49 ∷ []) ∷ [])
+      ∷ row (48 ∷ []) ((49 ∷ []) ∷ [])
+      ∷ row (48 ∷ []) ((49 ∷ []) ∷ [])
+      ∷ row (48 ∷ []) ((49 ∷ []) ∷ [])
+      ∷ row (48 ∷ []) ((49 ∷ []) ∷ [])
+      ∷ row (48 ∷ []) ((50 ∷ []) ∷ [])
+      ∷ row (48 ∷ []) []
+      ∷ [])
   -- an input in pieces: the lines that are ended, and what follows the last byte 10
   pub pieces : (complete (51 ∷ 10 ∷ 10 ∷ 52 ∷ 53 ∷ []) ≡ (51 ∷ []) ∷ [] ∷ [])
       × (unended (51 ∷ 10 ∷ 10 ∷ 52 ∷ 53 ∷ []) ≡ 52 ∷ 53 ∷ [])
@@ -221,7 +258,7 @@ pub record Worked : Type 0 where
 
 -- by computing
 pub worked : Worked
-unfolding setup step conditions accepted mapped loaded begun afterRead cacheAfter onlyAt changed committed grant taken applied carried meets updated change putLast fits32 outcomeRefusal fieldOf fieldAfter pushed _⇒_ withLast withExclusive serve said naturalIn integerIn column answerLine
+unfolding setup step conditions accepted mapped loaded begun afterRead cacheAfter onlyAt changed committed grant abandoned lapse advanced taken applied carried deleted cut swept meets updated change putLast fits32 outcomeRefusal fieldOf fieldAfter pushed _⇒_ documents withLast withExclusive lapses loses isLost inDocuments stays serve said naturalIn integerIn column answerLine
 worked =
     record {
       paper = refl;
@@ -252,6 +289,7 @@ worked =
       sideBySide = refl;
       formFirst = (refl, refl, refl);
       longest = (refl, refl);
+      lengths = (refl, refl);
       unknown = (refl, refl, refl, refl);
       answers = (refl, refl, refl, refl, refl);
       wide = refl;
@@ -259,5 +297,6 @@ worked =
       reads = refl;
       refusedLines = refl;
       keysShown = refl;
+      others = refl;
       pieces = (refl, refl, refl, refl, refl, refl, refl);
     }

@@ -9,15 +9,16 @@ use Rattle.rules.specs.Lists.{pushed, span}
 use Rattle.rules.specs.Limits.{lowest, highest}
 use Rattle.rules.specs.Refusals.{seventhMember, sumTooLarge, _⇒_}
 use Rattle.rules.specs.Values.{fits32, inRange, absent, number, list, fieldOk}
-use Rattle.rules.specs.Changes.{set, unset, inc, add, push, becomes, fails, member, pullFirst, putLast, change, outcomeRefusal, fieldOf, meets, updated, fieldAfter, sets}
-use Rattle.rules.specs.Tables.{documents, Plant, setup, withRows, withClock, withNext}
+use Rattle.rules.specs.Changes.{set, unset, inc, add, push, becomes, fails, member, pullFirst, putLast, change, outcomeRefusal, fieldOf, meets, updated, fieldAfter, sets, updateOf}
+use Rattle.rules.specs.Tables.{documents, Plant, setup, withCache, withSlots, withBuffer, withRows, withClock, withNext}
 use Rattle.rules.specs.Reading.{showsIt}
 use Rattle.rules.specs.Calls.{arrives, lost, unreached, Map, Begin, Change, Apply, Sweep, Pick, fine}
 use Rattle.rules.specs.Conditions.{conditions}
-use Rattle.rules.specs.Effects.{loaded, mapped, begun, cacheAfter, onlyAt, afterRead, withExclusive, withLast, grant, changed, committed, abandoned, lapses, lapse, loses, isLost, inDocuments, stays, advanced, taken, carried, applied, deleted, cut, swept}
+use Rattle.rules.specs.Effects.{loaded, mapped, opened, begun, cacheAfter, onlyAt, afterRead, withExclusive, withLast, grant, changed, committed, abandoned, lapses, lapse, loses, isLost, inDocuments, stays, advanced, taken, carried, applied, deleted, cut, swept}
 use Rattle.rules.specs.Step.{accepted, step, Allowed}
-use Rattle.rules.specs.Scenario.{Line, _gets_, yes, says, no, lineOf, noPick, after, Plays, load, pair, zeros, mapOne, read, edit, commit, advance, takes, apply, delete, cuts, editOrigin, setting, begins, handWithRows}
-use Rattle.rules.specs.Edges.{sixMembers}
+use Rattle.rules.specs.Kept.{kept}
+use Rattle.rules.specs.Scenario.{Line, _gets_, yes, says, no, lineOf, noPick, after, Plays, load, pair, zeros, mapOne, read, edit, commit, advance, takes, apply, delete, cuts, editOrigin, setting, origin, begins, mapKeys, readKeys, handWithRows}
+use Rattle.rules.specs.Edges.{changing, sixMembers}
 use native.Mathlib.Omega.{arith}
 
 -- a key of all four fields of a document, and session 1
@@ -31,6 +32,16 @@ withSweepable = withRows (span 1 17) (withNext 18 setup)
 
 abbrev pub sweepOf : List ℕ → Pick
 sweepOf l = record { gives = 15; swept = l }
+
+-- sixteen cached keys of seventeen, eight sessions, 32 buffered ones
+abbrev pub cachedFull : Plant
+cachedFull = after (mapKeys 17 ++ (Begin gets says 1 ∷ readKeys 16)) setup
+
+abbrev pub slotsFull : Plant
+slotsFull = after (begins 8 0) setup
+
+abbrev pub bufferFull : Plant
+bufferFull = after (changing 32 0) setup
 
 pub record Bounds : Type 0 where
   -- a change's document, field, kind and value; the eighth change and the ninth
@@ -115,6 +126,14 @@ pub record Bounds : Type 0 where
   pub clockPast : Plays (withClock 99999934465 setup) (advance 65535 gets no 21 ∷ advance 65534 gets says 99999999999 ∷ [])
   -- the 48th row and the 49th
   pub rows : Plays (handWithRows 2 47) (apply 0 arrives gets says 1 ∷ []) × Plays (handWithRows 2 48) (apply 0 arrives gets no 19 ∷ [])
+  -- a plant keeps its rules with its tables full, and not with one entry more
+  pub cached : (kept cachedFull ≡ true) × (kept (withCache (cachedFull .cache ++ (record { key = 16; fields = absent ∷ [] } ∷ [])) cachedFull) ≡ false)
+  pub slots : (kept slotsFull ≡ true) × (kept (withNext 10 (withSlots (slotsFull .slots ++ (opened 9 0 ∷ [])) slotsFull)) ≡ false)
+  pub buffered : (kept bufferFull ≡ true)
+      × (kept (withNext 34 (withBuffer (bufferFull .buffer ++ (record { number = 33; changes = updateOf origin 1 (pos 5) ∷ [] } ∷ [])) bufferFull)) ≡ false)
+  pub rowsKept : (kept (withNext 49 (withRows (span 1 48) setup)) ≡ true) × (kept (withNext 50 (withRows (span 1 49) setup)) ≡ false)
+  pub clockKept : (kept (withClock 99999999999 setup) ≡ true) × (kept (withClock 100000000000 setup) ≡ false)
+  pub numbersKept : (kept (withNext 4294967296 setup) ≡ true) × (kept (withNext 4294967297 setup) ≡ false) × (kept (withNext 0 setup) ≡ false)
   -- a sweep of sixteen rows, and none of seventeen; the last of sixteen cached keys may give way, and there is no seventeenth
   pub sixteen : Allowed (sweepOf (span 2 16)) withSweepable
       × ((step Sweep [] (sweepOf (span 2 16)) withSweepable) .answer ≡ fine (16 ∷ []))
@@ -124,7 +143,7 @@ pub record Bounds : Type 0 where
 
 -- by computing
 pub bounds : Bounds
-unfolding setup step conditions accepted mapped loaded begun afterRead cacheAfter onlyAt changed committed abandoned grant lapse advanced taken applied carried deleted cut swept meets updated change member pullFirst putLast fits32 outcomeRefusal fieldOf fieldAfter pushed _⇒_ documents withLast withExclusive lapses loses isLost inDocuments stays showsIt sets
+unfolding setup step conditions accepted mapped loaded begun afterRead cacheAfter onlyAt changed committed abandoned grant lapse advanced taken applied carried deleted cut swept meets updated change member pullFirst putLast fits32 outcomeRefusal fieldOf fieldAfter pushed _⇒_ documents withLast withExclusive lapses loses isLost inDocuments stays showsIt sets kept
 bounds =
     record {
       changes = refl;
@@ -138,6 +157,12 @@ bounds =
       clock = refl;
       clockPast = refl;
       rows = (refl, refl);
+      cached = (refl, refl);
+      slots = (refl, refl);
+      buffered = (refl, refl);
+      rowsKept = (refl, refl);
+      clockKept = (refl, refl);
+      numbersKept = (refl, refl, refl);
       sixteen = (record { oneOfSixteen = omega arith; removes = refl; once = refl; atMost = omega arith; atLeast = λ h. refl }, refl, refl);
       seventeen = λ a. let h : 17 ≤ 16 = a .atMost in omega arith;
       seventeenth = λ a. let h : 16 < 16 = a .oneOfSixteen in omega arith;

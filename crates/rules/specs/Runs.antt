@@ -19,6 +19,7 @@ use Rattle.rules.specs.Step.{accepted, step, Allowed}
 use Rattle.rules.specs.Kept.{kept}
 use Rattle.rules.specs.Scenario.{Line, _gets_, yes, says, no, lineOf, after, Plays, load, pair, zeros, mapOne, mapTwo, read, edit, commit, report, advance, takes, apply, delete, cuts, near, origin, mapOrigin, editOrigin, setting, noPick, begins, setsBy, pushes, mapKeys, readKeys, handWithRows, applied1, deleted1, slow1, overtaken}
 use Rattle.rules.specs.Edges.{changing}
+use native.Mathlib.Omega.{arith}
 
 -- session 1 in worker 3's hand, applied without a reply, and deleted by worker 0
 abbrev pub lastHand3 : List Line
@@ -42,6 +43,20 @@ carriedOnce =
     ∷ commit 1 gets says 1
     ∷ takes 0 gets says 1
     ∷ apply 0 lost gets says 0
+    ∷ []
+
+-- inc 1 by session 1 and inc 10 by session 2, both buffered, and the first applied
+abbrev pub twoBuffered : List Line
+twoBuffered =
+    mapOrigin gets yes
+    ∷ Begin gets says 1
+    ∷ editOrigin 1 inc (pos 1) gets says 1
+    ∷ commit 1 gets says 1
+    ∷ Begin gets says 2
+    ∷ editOrigin 2 inc (pos 10) gets says 1
+    ∷ commit 2 gets says 2
+    ∷ takes 0 gets says 1
+    ∷ apply 0 arrives gets says 1
     ∷ []
 
 pub record Runs : Type 0 where
@@ -775,6 +790,26 @@ pub record Runs : Type 0 where
   pub fullRowsLeave : (after (apply 0 lost gets says 0 ∷ []) (handWithRows 2 48)) .store origin ≡ absent
   pub shownOnce : (step (read 2 0) (replicate 8 (pos 9)) noPick (after (carriedOnce ++ (Begin gets says 2 ∷ [])) setup)) .words
       ≡ pos 1 ∷ pos 1 ∷ pos 75 ∷ pos 0 ∷ pos 0 ∷ pos 0 ∷ pos 0 ∷ pos 0 ∷ []
+  -- a change that is refused 6, 7, 8 or 20 takes no lease, dooms no reader and leaves its session
+  pub refusedSpare : Plays setup
+      (load 0 0 set (pos 7) gets yes
+      ∷ pushes 1 0 6
+      ++ (load 2 0 set highest gets yes
+      ∷ Map (pos 0) (pos 3) (record { first = pair 0 0; second = pair 1 0; third = pair 2 0; fourth = zeros }) gets yes
+      ∷ begins 2 0
+      ++ (read 1 0 gets says 1
+      ∷ edit 2 0 0 push (pos 1) gets no 6
+      ∷ edit 2 1 0 push (pos 1) gets no 7
+      ∷ edit 2 2 0 inc (pos 1) gets no 8
+      ∷ near false gets yes
+      ∷ edit 2 3 0 inc (pos 1) gets no 20
+      ∷ report 2 gets (0 ∷ 0 ∷ 0 ∷ 0 ∷ [])
+      ∷ report 1 gets (0 ∷ 3 ∷ 0 ∷ 0 ∷ [])
+      ∷ [])))
+  -- an apply carries its own session's changes and no other's; a read shows both
+  pub carriesOne : ((after twoBuffered setup) .store origin ≡ number (pos 1))
+      × ((step (read 3 0) (replicate 8 (pos 9)) noPick (after (twoBuffered ++ (Begin gets says 3 ∷ [])) setup)) .words
+      ≡ pos 1 ∷ pos 1 ∷ pos 11 ∷ pos 0 ∷ pos 0 ∷ pos 0 ∷ pos 0 ∷ pos 0 ∷ [])
   -- ── the paper's numbers ──
   pub limits : documentCount ∷ fieldCount ∷ keyCount ∷ placeLimit ∷ memberLimit ∷ cacheLimit ∷ slotLimit ∷ changeLimit ∷ bufferLimit ∷ rowLimit
       ∷ workerCount ∷ sweepLimit ∷ wordsPerField ∷ leaseTicks ∷ sessionTicks ∷ advanceLimit ∷ lastTick ∷ firstSession ∷ lastSession ∷ []
@@ -885,8 +920,10 @@ runs =
       noChoices = (λ a. false≢true (a .removes), λ a. false≢true (a .removes), λ a. false≢true (a .once));
       fullRowsLeave = refl;
       shownOnce = refl;
+      refusedSpare = refl;
+      carriesOne = (refl, refl);
       limits = refl;
-      choices = λ pick p a. (a .oneOfSixteen, a .atMost);
+      choices = λ pick p a. (omega (arith, a .oneOfSixteen), omega (arith, a .atMost));
       refusals = refl;
       numbers = refl;
       computes = (refl, refl);
