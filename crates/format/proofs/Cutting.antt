@@ -4,6 +4,8 @@ use mathlib.Core.Path.{_≡_, ap, refl, sym}
 use mathlib.Core.Bool.{cond, false, true, true≢false}
 use mathlib.Core.List.{List, [], _++_, _∷_, append-assoc}
 use lib.Dec.{eqb}
+-- the worked lines come first: a definition that is off shows there before it shows in a law
+use Rattle.format.proofs.Worked.{worked-lines}
 use Rattle.rules.specs.Lists.{isEmpty}
 use Rattle.rules.proofs.Laws.{byCase}
 use Rattle.format.specs.Bytes.{newline}

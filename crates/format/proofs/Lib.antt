@@ -1,4 +1,5 @@
 -- Laws of the line format.
+pub mod Worked
 pub mod Short
 pub mod Cutting
 pub mod Serving

@@ -10,6 +10,8 @@ use lib.ListN.{drop, length, length-take, take}
 use lib.Seq.{take-nil, take-take}
 use lib.Dec.{ltb}
 use borrow.Author.Tests.{le-ltb, lt-ltb, ltb-false, ltb-true}
+-- the worked lines come first: a definition that is off shows there before it shows in a law
+use Rattle.format.proofs.Worked.{worked-lines}
 use Rattle.rules.specs.Lists.{caseOf}
 use Rattle.rules.specs.Tables.{Plant}
 use Rattle.rules.specs.Calls.{Pick}

@@ -6,6 +6,8 @@ use Prim.Native.Nat.{ℕ, zero, suc, _/_}
 use native.Mathlib.Omega.{arith}
 use lib.Dec.{ltb}
 use lib.ListN.{length, replicate, length-append, length-replicate}
+-- the worked lines come first: a definition that is off shows there before it shows in a law
+use Rattle.format.proofs.Worked.{worked-lines}
 use Rattle.rules.proofs.Laws.{byCase}
 use Rattle.format.specs.Bytes.{space, base}
 use Rattle.format.specs.Columns.{before, digitsIn}

@@ -3,6 +3,8 @@ use Prim.Native.Nat.{_<_, ℕ}
 use mathlib.Core.Path.{_≡_}
 use mathlib.Core.Bool.{false, true}
 use mathlib.Core.List.{List, [], _++_, _∷_}
+-- the worked runs come first: a definition that is off shows there before it shows in a law
+use Rattle.rules.proofs.Worked.{worked-runs}
 use Rattle.rules.specs.Lists.{isEmpty}
 use Rattle.rules.specs.Limits.{workerCount}
 use Rattle.rules.specs.Values.{Place, Stock}

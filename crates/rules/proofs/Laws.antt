@@ -8,6 +8,8 @@ use lib.ListN.{length}
 use lib.Dec.{eqb}
 use lib.IntN.{negsuc, pos, ℤ}
 use borrow.Author.Tests.{eq-eqb, eqb-false, eqb-true, lt-ltb, ltb-true, ne-eqb}
+-- the worked runs come first: a definition that is off shows there before it shows in a law
+use Rattle.rules.proofs.Worked.{worked-runs}
 use Rattle.rules.specs.Lists.{pushed, isEmpty, isCase, caseOf}
 use Rattle.rules.specs.Refusals.{Refusal, _⇒_, first}
 use Rattle.rules.specs.Values.{below, natOf, Place, samePlace, Field, Stock}

@@ -1,6 +1,7 @@
 -- Laws and proofs over the rules.
 -- What other crates cite: Laws and Tests; of a call Steps; of kept plants KeptTest, KeptParts, KeptSlots, Buffer and Words; Away (a value without the store),
 -- Frames (what a call may write) and Demand3.
+pub mod Worked
 pub mod Laws
 pub mod Tests
 pub mod Accepts

@@ -1,0 +1,9 @@
+-- The worked runs, first of all: a definition that is off shows as a run that is false before any law is tried.
+use Rattle.rules.specs.Edges.{Edges, PaperRun, edges, paper-run}
+use Rattle.rules.specs.Runs.{Runs, runs}
+use Rattle.rules.specs.Orders.{Orders, orders}
+use Rattle.rules.specs.Bounds.{Bounds, bounds}
+use Rattle.rules.specs.Histories.{Histories, histories}
+
+pub worked-runs : Edges × PaperRun × Runs × Orders × Bounds × Histories
+worked-runs = (edges, paper-run, runs, orders, bounds, histories)
