@@ -104,7 +104,7 @@ setFive = record { at = origin; kind = set; value = pos 5 }
 abbrev pub pushFive : Update
 pushFive = record { at = origin; kind = push; value = pos 5 }
 
--- the empty stock, and one with 5 at the origin
+-- the empty stock, and one with 5 at every place
 abbrev pub nothing : Stock
 nothing q = absent
 
@@ -166,6 +166,7 @@ pub record Histories : Type 0 where
   pub broughtNear : Prepares (after (near false gets yes ∷ []) setup) (cutWorker ∷ wait 300 ∷ bringNear ∷ [])
   pub bothNear : Prepares setup (bringNear ∷ wait 300 ∷ wait 0 ∷ cutWorker ∷ cutWorker ∷ [])
   -- the last worker, at the clock's end, of a store that is away
+  pub drainPlays : Plays (lateWorld .plant) (lateCalls ++ fourOf3)
   pub drains : Holds lateWorld → Drained (turnsOf (lateCalls ++ fourOf3)) lateWorld
   -- any list, with refused calls and choices in it
   pub everyList : Demand3 → Holds (turns carriedAndSwept initial)
@@ -241,6 +242,7 @@ histories =
       lastTicks = record { worker = refl; moves = refl; ticksLeft = omega arith; store = refl };
       broughtNear = record { worker = refl; moves = refl; ticksLeft = omega arith; store = refl };
       bothNear = record { worker = refl; moves = refl; ticksLeft = omega arith; store = refl };
+      drainPlays = refl;
       drains = λ h.
           h .drains 3 (omega arith) (cutWorker ∷ wait 100 ∷ bringNear ∷ wait 200 ∷ [])
           (record { worker = refl; moves = refl; ticksLeft = omega arith; store = refl })
