@@ -41,6 +41,10 @@ pub complete-line : (l rest : List ℕ) → hasEnd l ≡ false → complete (l +
 complete-line [] rest h = refl
 complete-line (b ∷ l) rest h = rw (no-head b l h .0, complete-line l rest (no-head b l h .1))
 
+pub lines-line : (l rest : List ℕ) → hasEnd l ≡ false → linesOf (l ++ (newline ∷ rest)) ≡ l ∷ linesOf rest
+lines-line [] rest h = refl
+lines-line (b ∷ l) rest h = rw (no-head b l h .0, lines-line l rest (no-head b l h .1))
+
 pub unended-line : (l rest : List ℕ) → hasEnd l ≡ false → unended (l ++ (newline ∷ rest)) ≡ unended rest
 unended-line [] rest h = refl
 unended-line (b ∷ l) rest h = rw (no-head b l h .0, end-here l rest) (unended-line l rest (no-head b l h .1))

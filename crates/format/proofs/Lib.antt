@@ -7,3 +7,4 @@ pub mod Feeding
 pub mod ReadBack
 pub mod Widths
 pub mod Demand3
+pub mod Demands

@@ -2,6 +2,7 @@
 pub mod Bytes
 pub mod Columns
 pub mod Demand3
+pub mod Demands
 pub mod Feeding
 pub mod Lines
 pub mod Serving
