@@ -1,15 +1,17 @@
--- However an input is cut into pieces, its answers are those of its lines, and demand 3 holds after it.
+-- However an input is cut into pieces, its answers are those of its lines, demands 1 and 2 hold of each, and demand 3 after it.
 use mathlib.Core.Path.{_≡_, refl, sym, subst}
 use mathlib.Core.Bool.{true}
-use mathlib.Core.List.{List, [], _∷_}
+use mathlib.Core.List.{List, [], _++_, _∷_}
 use lib.ListN.{take}
+use Rattle.format.specs.Serving.{linesOf}
 use Rattle.format.specs.Feeding.{Feeds}
 use Rattle.format.proofs.Feeding.{feeds-append, feeds-whole}
 use Rattle.format.proofs.Demand3.{lines-hold}
+use Rattle.format.proofs.Demands.{lines-meet}
 use Rattle.plant.specs.View.{viewPlant}
 use Rattle.pending.specs.View.{viewPending}
 use Rattle.feeding.specs.Fed.{keptServer}
-use Rattle.feeding.specs.Input.{Taken, Takes, left, input, output, InputServed, InputHolds}
+use Rattle.feeding.specs.Input.{Taken, Takes, left, input, output, InputServed, InputMeets, InputHolds}
 use Rattle.feeding.specs.declared.Server.{Server}
 use Rattle.feeding.proofs.Laws.{nothing-fed}
 
@@ -36,6 +38,9 @@ input-served s start none k xs t out r h =
     (subst (λ p. Feeds [] p (input xs) (output xs) (viewPending (left s xs .pending)) (viewPlant (left s xs .plant))) start
     (subst (λ u. Feeds u (viewPlant (s .plant)) (input xs) (output xs) (viewPending (left s xs .pending)) (viewPlant (left s xs .plant))) none (w .feeds)))
     (h (w .keeps) .serves)
+
+pub input-meets : InputMeets
+input-meets s start none k xs t out r h = lines-meet (linesOf (input xs)) (output xs ++ take (r .wrote) out) (viewPlant (r .plant)) (input-served s start none k xs t out r h)
 
 pub input-holds : InputHolds
 input-holds s start none k xs t out r h = lines-hold _ _ _ (input-served s start none k xs t out r h)

@@ -1,13 +1,15 @@
--- However an input is cut into pieces, its answers are those of its lines, and demand 3 holds of the plant left behind. The proof is proofs/Input,
--- from the promises of `feed` and `finish` and the rules' theorem alone.
+-- However an input is cut into pieces, its answers are those of its lines, demands 1 and 2 hold of each line, and demand 3 of the plant left
+-- behind. The proof is proofs/Input, from the promises of `feed` and `finish` and the rules' theorem alone.
 use Prim.Native.Nat.{ℕ}
 use mathlib.Core.Path.{_≡_}
 use mathlib.Core.Bool.{true}
 use mathlib.Core.List.{List, [], _++_, _∷_}
 use lib.ListN.{take}
 use Rattle.rules.specs.Tables.{Plant, setup}
+use Rattle.rules.specs.History.{initial}
 use Rattle.format.specs.Serving.{linesOf, Serves}
 use Rattle.format.specs.Demand3.{Made}
+use Rattle.format.specs.Demands.{Meets}
 use Rattle.plant.specs.View.{viewPlant}
 use Rattle.pending.specs.View.{viewPending}
 use Rattle.feeding.specs.Fed.{keptServer, Fed, Finished}
@@ -47,6 +49,10 @@ OfInput Claim =
 abbrev pub InputServed : Type 0
 InputServed = OfInput (λ ls out q. Serves ls setup out q)
 
--- demand 3 of the line program's server
+-- demands 1 and 2 of the line program's server: of each line of the input, by the line of the output that answers it
+abbrev pub InputMeets : Type 0
+InputMeets = OfInput (λ ls out q. Meets ls initial (linesOf out) q)
+
+-- demand 3
 abbrev pub InputHolds : Type 0
 InputHolds = OfInput Made
