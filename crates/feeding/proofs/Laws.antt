@@ -49,7 +49,7 @@ use Rattle.dispatch.proofs.Laws as dispatch
 use Rattle.leaving.proofs.Laws.{left}
 use Rattle.serving.specs.Answered.{Answered, Tells}
 use Rattle.serving.proofs.Laws.{Done, done}
-use Rattle.feeding.specs.Fed.{keptServer, Within, Past, Ready, Next, Fed, Finished}
+use Rattle.feeding.specs.Fed.{keptServer, Within, Past, Ready, Next, Fed, Finished, Untouched, FormKept}
 use Rattle.feeding.specs.declared.Server.{Server}
 
 pub kept-start : (p : Plant) (t : Pending) (n m : ℕ) → keptPlant p ≡ true → viewPending t ≡ [] → keptServer (record { plant = p; pending = t; used = n; wrote = m }) ≡ true
@@ -278,25 +278,29 @@ module _ (x : Said) (p : Plant) (y c : Call) (a : Answer) (ws : List ℤ) (m : M
     asked-plain t h = shows-none y refl (λ s k e. true≢false (sym t ∙ ap isPlain e)) (plain-answered p y t lentWords b h)
 
 -- ── what a call leaves, in the loop ──
+-- it is done, and the plant's form is kept
+abbrev pub DoneInForm : Said → Plant → Answer → Plant → Type 0
+DoneInForm x p a q = Done x p a q × (plantForm p ≡ true → plantForm q ≡ true)
+
 module _ (c : Call) (p : Plant) (a : Answer) where
   -- by the tables that it writes
-  pub done-by : (y : Call) → c ≡ y → (r : Bool) → r ≡ isRefused (viewAnswer a) → r ≡ false → (q : Plant) → Performs (viewCall y) p q × (plantForm p ≡ true → plantForm q ≡ true) → Done (Says c) p a q
+  pub done-by : (y : Call) → c ≡ y → (r : Bool) → r ≡ isRefused (viewAnswer a) → r ≡ false → (q : Plant) → Performs (viewCall y) p q × (plantForm p ≡ true → plantForm q ≡ true) → DoneInForm (Says c) p a q
   done-by y e r er h q f =
       let g = left p c y e q f in
       let d = chosen.performed (viewCall c) p q a r er h (g .0) (g .1) in
-      (d .0, d .1 .1)
+      ((d .0, d .1 .1), d .1 .0)
 
   -- by a function over all calls
-  pub done-whole : (q : Plant) → Leaves (viewCall c) p a q × ((plantForm p ≡ true → plantForm q ≡ true) × Keeps (viewCall c) p a q) → Done (Says c) p a q
-  done-whole q f = (f .0, f .1 .1)
+  pub done-whole : (q : Plant) → Leaves (viewCall c) p a q × ((plantForm p ≡ true → plantForm q ≡ true) × Keeps (viewCall c) p a q) → DoneInForm (Says c) p a q
+  done-whole q f = ((f .0, f .1 .1), f .1 .0)
 
   module _ (e : Bool) (ee : e ≡ isEnding (viewAnswer a)) where
     -- its session ends, where it is refused so
-    pub done-ended : e ≡ true → (q : Plant) → (keptPlant p ≡ true → viewPlant q ≡ ending (sessionOf (viewCall c)) (viewPlant p)) × (plantForm p ≡ true → plantForm q ≡ true) → Done (Says c) p a q
+    pub done-ended : e ≡ true → (q : Plant) → (keptPlant p ≡ true → viewPlant q ≡ ending (sessionOf (viewCall c)) (viewPlant p)) × (plantForm p ≡ true → plantForm q ≡ true) → DoneInForm (Says c) p a q
     done-ended h q f = done-whole q (and-keeps (viewCall c) p q a (ends (viewCall c) p a e ee h q (f .0)) (f .1))
 
     -- nothing, where it is refused and its session goes on
-    pub done-nothing : (r : Bool) → r ≡ isRefused (viewAnswer a) → e ≡ false → r ≡ true → Done (Says c) p a p
+    pub done-nothing : (r : Bool) → r ≡ isRefused (viewAnswer a) → e ≡ false → r ≡ true → DoneInForm (Says c) p a p
     done-nothing r er g h = done-whole p (and-keeps (viewCall c) p p a (stays (viewCall c) p a e ee r er g h) (λ f. f))
 
 -- ── the pieces of a piece ──
@@ -310,6 +314,8 @@ pub record Feeding (piece lent : List ℕ) (s : Server) (out : List ℕ) (t : Se
   pub begun : t .used ≡ 0 → t .wrote ≡ 0
   pub past : keptServer s ≡ true → Past t lent out
   pub fed : keptServer s ≡ true → Fed s piece out t
+  pub short : length lent < longest → Untouched s lent out t
+  pub form : FormKept s t
 
 take-between : (a b : ℕ) (l : List ℕ) → a ≤ b → take b l ≡ take a l ++ between a b l
 take-between zero b l h = let e : b - 0 ≡ b = omega arith in rw e refl
@@ -337,6 +343,8 @@ feed-start p kept piece lent =
       begun = λ e. refl;
       past = λ k. refl;
       fed = λ k. record { feeds = nothing-fed (record { plant = p; pending = kept; used = 0; wrote = 0 }) k; keeps = k };
+      short = λ h. record { plant = refl; pending = refl; used = refl; wrote = refl; bytes = refl };
+      form = record { plant = λ g. g; pending = λ g. g };
     }
 
 drop-further : (a b : ℕ) (l m : List ℕ) → a ≤ b → drop a l ≡ drop a m → drop b l ≡ drop b m
@@ -345,8 +353,8 @@ drop-further a b l m h e =
     ap (λ i. drop i l) (sym n) ∙ sym (drop-drop (b - a) a l) ∙ ap (drop (b - a)) e ∙ drop-drop (b - a) a m ∙ ap (λ i. drop i m) n
 
 pub feed-next : (piece lent out out′ : List ℕ) (s t r : Server) → Feeding piece lent s out t → length out′ ≡ length out
-    → (keptServer t ≡ true → Next t piece out out′ r) → Within r piece out → t .used < r .used → Feeding piece lent s out′ r
-feed-next piece lent out out′ s t r f l n w u =
+    → (keptServer t ≡ true → Next t piece out out′ r) → Within r piece out → t .used < r .used → longest ≤ length out → FormKept t r → Feeding piece lent s out′ r
+feed-next piece lent out out′ s t r f l n w u room g =
     let e = f .long in
     record {
       long = l ∙ e;
@@ -362,26 +370,31 @@ feed-next piece lent out out′ s t r f l n w u =
                 (feeds-append (viewPending (s .pending)) (take (t .used) piece) (between (t .used) (r .used) piece) (take (t .wrote) out) (between (t .wrote) (r .wrote) out′) (viewPending (t .pending)) (viewPending (r .pending)) (viewPlant (s .plant)) (viewPlant (t .plant)) (viewPlant (r .plant)) (x .feeds) (y .feeds));
             keeps = y .keeps;
           };
+      short = λ h. absurd (omega (arith, h, room, e));
+      form = record { plant = λ k. g .plant (f .form .plant k); pending = λ k. g .pending (f .form .pending k) };
     }
 
 -- the server that a piece was taken from began with nothing used; where there is room for an answer more, all of the piece is used
 -- a line of the piece is told and done
 module _ (piece lent out : List ℕ) (s t : Server) (f : Feeding piece lent s out t) (end : ℕ) (ee : end ≡ endFrom (t .used) piece) (ready : Ready t piece out) (found : end < length piece)
-    (q : Plant) (kept : Pending) (ek : viewPending kept ≡ []) (len : ℕ) (part : List ℕ) where
+    (q : Plant) (kept : Pending) (ek : viewPending kept ≡ []) (fk : pendingForm kept ≡ true) (len : ℕ) (part : List ℕ) where
   abbrev lines-out : List ℕ
   lines-out = putMid (t .wrote) (length out - t .wrote) out part
 
   pub feed-line : length lines-out ≡ length out → (x : Said) → viewSaid x ≡ said (viewPending (t .pending) ++ between (t .used) end piece) → (a : Answer)
       → (longest ≤ length (take (length out - t .wrote) (drop (t .wrote) out)) → keptPlant (t .plant) ≡ true → Tells x (t .plant) (take (length out - t .wrote) (drop (t .wrote) out)) part len a)
-      → len ≤ length (take (length out - t .wrote) (drop (t .wrote) out)) → Done x (t .plant) a q → Feeding piece lent s lines-out (at q kept (end + 1) (t .wrote + len))
+      → len ≤ length (take (length out - t .wrote) (drop (t .wrote) out)) → DoneInForm x (t .plant) a q → Feeding piece lent s lines-out (at q kept (end + 1) (t .wrote + len))
   feed-line l x es a h w d =
-      let n = line-fed t piece out end ee ready found q kept ek len part x es a h w d in
-      feed-next piece lent out lines-out s t (at q kept (end + 1) (t .wrote + len)) f l (n .0) (n .1 .0) (n .1 .1)
+      let n = line-fed t piece out end ee ready found q kept ek len part x es a h w (d .0) in
+      feed-next piece lent out lines-out s t (at q kept (end + 1) (t .wrote + len)) f l (n .0) (n .1 .0) (n .1 .1) (omega (arith, ready .1)) (record { plant = d .1; pending = λ k. fk })
 
 pub feed-end : (s : Server) (piece lent out : List ℕ) (t : Server) → Feeding piece lent (record { plant = s .plant; pending = s .pending; used = 0; wrote = 0 }) out t
     → (t .wrote + longest ≤ length lent → t .used ≡ length piece) → (longest ≤ length lent → t .used ≡ 0 → length piece ≡ 0)
-    → (keptServer s ≡ true → Fed s piece out t) × (Within t piece lent × ((t .wrote + longest ≤ length lent → t .used ≡ length piece) × ((longest ≤ length lent → t .used ≡ 0 → length piece ≡ 0) × (keptServer s ≡ true → Past t lent out))))
-feed-end s piece lent out t f all some = (λ k. let x = f .fed (unused s k) in record { feeds = x .feeds; keeps = x .keeps }, (f .within, (all, (some, λ k. f .past (unused s k)))))
+    → (keptServer s ≡ true → Fed s piece out t) × (Within t piece lent × ((t .wrote + longest ≤ length lent → t .used ≡ length piece) × ((longest ≤ length lent → t .used ≡ 0 → length piece ≡ 0) × ((keptServer s ≡ true → Past t lent out) × ((length lent < longest → Untouched s lent out t) × FormKept s t)))))
+feed-end s piece lent out t f all some = (
+  λ k. let x = f .fed (unused s k) in record { feeds = x .feeds; keeps = x .keeps },
+  (f .within, (all, (some, (λ k. f .past (unused s k), (λ h. let x = f .short h in record { plant = x .plant; pending = x .pending; used = x .used; wrote = x .wrote; bytes = x .bytes }, record { plant = f .form .plant; pending = f .form .pending }))))),
+)
 
 -- ── the end of input ──
 -- a number that is not 0 is 1 or more

@@ -1,5 +1,5 @@
--- What a server promises, where it keeps the rules: the lines that a piece ends are served, and of the line that is not ended the first
--- bytes are kept.
+-- What a server promises. Where it keeps the rules, the lines that a piece ends are served, and of the line that is not ended the first
+-- bytes are kept; of any server form is kept, and where too few bytes are lent nothing is done.
 use Prim.Native.Nat.{_+_, _<_, _≤_, ℕ}
 use mathlib.Core.Path.{_≡_}
 use mathlib.Core.Bool.{Bool, _&&_, not, true}
@@ -10,8 +10,8 @@ use Rattle.format.specs.Bytes.{lineLimit}
 use Rattle.format.specs.Serving.{Serves}
 use Rattle.format.specs.Feeding.{hasEnd, lastLine, Feeds}
 use Rattle.printing.specs.Line.{longest}
-use Rattle.plant.specs.View.{viewPlant, keptPlant}
-use Rattle.pending.specs.View.{viewPending, between}
+use Rattle.plant.specs.View.{viewPlant, plantForm, keptPlant}
+use Rattle.pending.specs.View.{viewPending, pendingForm, between}
 use Rattle.feeding.specs.declared.Server.{Server}
 
 -- the plant keeps the tables' rules, and what is kept of a line holds no byte 10 and is not longer than it need be
@@ -48,3 +48,16 @@ pub record Finished (s : Server) (out : List ℕ) (t : Server) : Type 0 where
   pub serves : Serves (lastLine (viewPending (s .pending))) (viewPlant (s .plant)) (take (t .wrote) out) (viewPlant (t .plant))
   pub ends : viewPending (t .pending) ≡ []
   pub keeps : keptServer t ≡ true
+
+-- ── of any server, kept or not ──
+-- the very plant and bytes kept, and the bytes lent as they were
+pub record Untouched (s : Server) (lent out : List ℕ) (t : Server) : Type 0 where
+  pub plant : t .plant ≡ s .plant
+  pub pending : t .pending ≡ s .pending
+  pub used : t .used ≡ 0
+  pub wrote : t .wrote ≡ 0
+  pub bytes : out ≡ lent
+
+pub record FormKept (s t : Server) : Type 0 where
+  pub plant : plantForm (s .plant) ≡ true → plantForm (t .plant) ≡ true
+  pub pending : pendingForm (s .pending) ≡ true → pendingForm (t .pending) ≡ true

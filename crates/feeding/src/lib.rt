@@ -1,6 +1,6 @@
 // A server of lines: it takes input in pieces of any size, answers each line once byte 10 has ended it, and keeps of a line that is not
 // ended its first bytes.
-ghost use Prim.Native.Nat.{_+_, _≤_};
+ghost use Prim.Native.Nat.{_+_, _<_, _≤_};
 ghost use mathlib.Core.Path.{_≡_};
 ghost use mathlib.Core.Bool.{true};
 ghost use mathlib.Core.List.{[], _++_};
@@ -11,7 +11,7 @@ ghost use Rattle.printing.specs.Line.{longest};
 ghost use Rattle.plant.specs.View.{viewPlant};
 ghost use Rattle.pending.specs.View.{viewPending, between};
 ghost use Rattle.lines.specs.View.{viewSaid};
-ghost use Rattle.feeding.specs.Fed.{keptServer, Within, Past, Fed, Finished};
+ghost use Rattle.feeding.specs.Fed.{keptServer, Within, Past, Fed, Finished, Untouched, FormKept};
 use calls::Call;
 use lines::Said;
 use marking::Marked;
@@ -57,14 +57,17 @@ fn heard(kept: Pending, piece: &[u8], from: usize, to: usize) -> Said
     lines::parse(&bytes[..len])
 }
 
-// Takes the piece as far as there is room for its answers. The plant lies here: calls are asked where it lies and their tables are written
-// in place, because a plant that goes through a function is copied. What a read shows is kept for the cache, and not worked out again.
+// Takes the piece as far as there is room for its answers, and nothing of it where too few bytes are lent for any. The plant lies here: calls
+// are asked where it lies and their tables are written in place, because a plant that goes through a function is copied. What a read shows is
+// kept for the cache, and not worked out again.
 pub fn feed(s: Server, piece: &[u8], out: &mut [u8]) -> Server
     ensures feeds { λ r. ⌜ (keptServer s ≡ true → Fed s (now (piece .entry)) (now (out .exit)) r) ⌝ }
     ensures within { λ r. ⌜ Within r (now (piece .entry)) (now (out .entry)) ⌝ }
     ensures all { λ r. ⌜ (r .wrote + longest ≤ length (now (out .entry)) → r .used ≡ length (now (piece .entry))) ⌝ }
     ensures some { λ r. ⌜ (longest ≤ length (now (out .entry)) → r .used ≡ 0 → length (now (piece .entry)) ≡ 0) ⌝ }
     ensures past { λ r. ⌜ (keptServer s ≡ true → Past r (now (out .entry)) (now (out .exit))) ⌝ }
+    ensures short { λ r. ⌜ (length (now (out .entry)) < longest → Untouched s (now (out .entry)) (now (out .exit)) r) ⌝ }
+    ensures form { λ r. ⌜ FormKept s r ⌝ }
 {
     let mut p = s.plant;
     let mut kept = s.pending;
@@ -219,11 +222,13 @@ pub fn feed(s: Server, piece: &[u8], out: &mut [u8]) -> Server
     }
 }
 
-// The end of input ends a line that has begun, as a byte 10 does.
+// The end of input ends a line that has begun, as a byte 10 does. Where too few bytes are lent for any answer nothing is done.
 pub fn finish(s: Server, out: &mut [u8]) -> Server
     ensures serves { λ r. ⌜ (longest ≤ length (now (out .entry)) → keptServer s ≡ true → Finished s (now (out .exit)) r) ⌝ }
     ensures within { λ r. ⌜ r .wrote ≤ length (now (out .entry)) ⌝ }
     ensures past { λ r. ⌜ (keptServer s ≡ true → Past r (now (out .entry)) (now (out .exit))) ⌝ }
+    ensures short { λ r. ⌜ (length (now (out .entry)) < longest → Untouched s (now (out .entry)) (now (out .exit)) r) ⌝ }
+    ensures form { λ r. ⌜ FormKept s r ⌝ }
 {
     let kept = s.pending;
     if kept.is_empty() {

@@ -25,10 +25,9 @@ use Rattle.plant.specs.declared.Plant.{Plant}
 use Rattle.promises.specs.Promise.{Performs}
 use Rattle.report.proofs.Laws.{performs}
 use Rattle.dispatch.proofs.Laws.{not-seeing}
-use Rattle.serving.proofs.Laws.{Done}
 use Rattle.feeding.specs.Fed.{Ready}
 use Rattle.feeding.specs.declared.Server.{Server}
-use Rattle.feeding.proofs.Laws.{Feeding, at, feed-start, feed-next, feed-line, feed-end, line-inside, no-line, more-wrote, Asked, asked-read, asked-change, asked-plain, done-by, done-ended, done-nothing}
+use Rattle.feeding.proofs.Laws.{Feeding, at, feed-start, feed-next, feed-line, feed-end, line-inside, no-line, more-wrote, Asked, asked-read, asked-change, asked-plain, DoneInForm, done-by, done-ended, done-nothing}
 use Rattle.feeding.proofs.feed.Statement.{statement}
 use Rattle.feeding.proofs.feed.Tie as tie
 
@@ -105,7 +104,7 @@ returns-2 : tie.Need-returns-2 Inv-loop μ-loop
 returns-2 c =
     let o = c .before .before in
     let n = no-line (server o) (piece o) (out o) _ (o .line-end .ensures) (ready o) (c .before .if2 .taken) _ (c .add .ensures .0) in
-    feed-end (c .before .before .before .before .before .before .before .before .before .before .args .s) _ _ _ _ (feed-next _ _ _ _ _ (server o) _ (fed o) refl (n .0) (n .1 .0) (n .1 .1)) (λ r. omega (arith, n .1 .0 .0, c .before .if2 .taken))
+    feed-end (c .before .before .before .before .before .before .before .before .before .before .args .s) _ _ _ _ (feed-next _ _ _ _ _ (server o) _ (fed o) refl (n .0) (n .1 .0) (n .1 .1) (omega (arith, ready o .1)) (record { plant = λ f. f; pending = λ f. c .add .ensures .1 })) (λ r. omega (arith, n .1 .0 .0, c .before .if2 .taken))
     (λ r e. absurd (omega (arith, n .1 .1, e)))
 
 heard-requires : tie.Need-heard-requires Inv-loop μ-loop
@@ -148,8 +147,8 @@ loop-less c = less (c .before .before .before .before .before .before .before .b
 loop-again : tie.Need-loop-again Inv-loop μ-loop
 loop-again c =
     let l = c .before .before .before .before .before .before .before .before .before in
-    feed-line _ _ _ _ (server (l .before)) (fed (l .before)) _ (l .before .line-end .ensures) (ready (l .before)) (l .if2 .left) (server (l .before) .plant) (c .before .before .before .before .before .before .before .empty .result) (c .before .before .before .before .before .before .before .empty .ensures .0) _ _
-    (search (c .before .out .given, c .slice-known2 .given, c .before .before .refuse, needs)) (Faulty _) (ap viewSaid (sym (c .before .before .before .before .before .said2 .given .1)) ∙ c .before .before .before .before .before .before .before .before .heard .ensures) (Refused _) (c .before .before .refuse .ensures .0 (server (l .before) .plant)) (c .before .before .refuse .ensures .1) refl
+    feed-line _ _ _ _ (server (l .before)) (fed (l .before)) _ (l .before .line-end .ensures) (ready (l .before)) (l .if2 .left) (server (l .before) .plant) (c .before .before .before .before .before .before .before .empty .result) (c .before .before .before .before .before .before .before .empty .ensures .0) (c .before .before .before .before .before .before .before .empty .ensures .1) _ _
+    (search (c .before .out .given, c .slice-known2 .given, c .before .before .refuse, needs)) (Faulty _) (ap viewSaid (sym (c .before .before .before .before .before .said2 .given .1)) ∙ c .before .before .before .before .before .before .before .before .heard .ensures) (Refused _) (c .before .before .refuse .ensures .0 (server (l .before) .plant)) (c .before .before .refuse .ensures .1) (refl, λ f. f)
 
 -- ── what is answered ──
 nothing-requires : tie.Need-nothing-requires Inv-loop μ-loop
@@ -229,11 +228,11 @@ Served c q =
     (putMid (server (line (asked c) .before) .wrote) (length (out (line (asked c) .before)) - server (line (asked c) .before) .wrote) (out (line (asked c) .before)) (c .before .before .tell .last .1 .1 .1 .1 .0))
     (at q (asked c .before .before .before .before .before .empty .result) (line (asked c) .before .line-end .result + 1) (server (line (asked c) .before) .wrote + c .before .before .tell .result))
 
-again : (c : Printed) (q : Plant) → Done (Says (asked c .match2 .c)) (plant (asked c)) (asked c .match2 .a) q → Served c q
+again : (c : Printed) (q : Plant) → DoneInForm (Says (asked c .match2 .c)) (plant (asked c)) (asked c .match2 .a) q → Served c q
 again c q d =
     let l = line (asked c) in
     let f = question (asked c) in
-    feed-line _ _ _ _ (server (l .before)) (fed (l .before)) _ (l .before .line-end .ensures) (ready (l .before)) (l .if2 .left) q (asked c .before .before .before .before .before .empty .result) (asked c .before .before .before .before .before .empty .ensures .0) (c .before .before .tell .result) _
+    feed-line _ _ _ _ (server (l .before)) (fed (l .before)) _ (l .before .line-end .ensures) (ready (l .before)) (l .if2 .left) q (asked c .before .before .before .before .before .empty .result) (asked c .before .before .before .before .before .empty .ensures .0) (asked c .before .before .before .before .before .empty .ensures .1) (c .before .before .tell .result) _
     (search (c .before .out2 .given, c .slice-known3 .given, c .before .before .tell, needs)) (Says (asked c .match2 .c)) (ap viewSaid (sym (f .says)) ∙ asked c .before .before .before .before .before .before .heard .ensures) (asked c .match2 .a) (c .before .before .tell .ensures .0 (plant (asked c)) refl (f .answers) (f .fills) (counted (asked c))) (c .before .before .tell .ensures .1) d
 
 ends-session-requires : tie.Need-ends-session-requires Inv-loop μ-loop

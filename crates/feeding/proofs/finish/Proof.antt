@@ -10,7 +10,7 @@ is-empty-requires : tie.Need-is-empty-requires
 is-empty-requires c κs = search needs
 
 returns : tie.Need-returns
-returns c = (no-last (c .before .before .before .before .before .args .s) _ (c .before .before .is-empty .ensures) (c .before .if1 .taken) _, (omega arith, λ k. refl))
+returns c = (no-last (c .before .before .before .before .before .args .s) _ (c .before .before .is-empty .ensures) (c .before .if1 .taken) _, (omega arith, (λ k. refl, (λ h. record { plant = refl; pending = refl; used = refl; wrote = refl; bytes = refl }, record { plant = λ f. f; pending = λ f. f }))))
 
 slice-aggregate-feed : tie.Need-slice-aggregate-feed
 slice-aggregate-feed c = search needs
