@@ -4,6 +4,7 @@ ghost use mathlib.Core.Bool.{true};
 ghost use Rattle.plant.specs.View.{plantForm, keptPlant};
 ghost use Rattle.answers.specs.Own.{isAnswerOf};
 ghost use Rattle.calls.specs.View.{viewCall};
+ghost use Rattle.leaving.specs.Refused.{RefusalLeaves};
 ghost use Rattle.entry.specs.Ran.{Ran};
 use answers::Answer;
 use calls::Call;
@@ -18,6 +19,7 @@ pub fn run(p: Plant, c: Call, words: &mut [i32]) -> Outcome
     ensures runs { λ r. ⌜ (keptPlant p ≡ true → Ran c (now (words .entry)) p (r .answer) (now (words .exit)) (r .plant)) ⌝ }
     ensures own { λ r. ⌜ isAnswerOf (viewCall c) (r .answer) ≡ true ⌝ }
     ensures form { λ r. ⌜ (plantForm p ≡ true → plantForm (r .plant) ≡ true) ⌝ }
+    ensures refused { λ r. ⌜ RefusalLeaves p (r .answer) (r .plant) ⌝ }
 {
     let answer = dispatch::answer(p, c, words);
     let plant = leaving::after(p, c, answer);

@@ -1,7 +1,7 @@
 -- What an arm of the match knows of the call, and what it promises with that.
 use Prim.Native.Nat.{ℕ}
-use mathlib.Core.Path.{_≡_, refl, sym, subst}
-use mathlib.Core.Bool.{true}
+use mathlib.Core.Path.{_≡_, refl, sym, subst, _∙_}
+use mathlib.Core.Bool.{Bool, true, false, true≢false}
 use mathlib.Core.Option.{none}
 use mathlib.Core.List.{List, [], _∷_}
 use types.Run.{OneOf, miss}
@@ -15,7 +15,10 @@ use Rattle.plant.specs.View.{viewPlant, plantForm, keptPlant}
 use Rattle.plant.specs.With.{withSessions}
 use Rattle.plant.specs.declared.Plant.{Plant}
 use Rattle.sessions.specs.declared.Sessions.{Sessions}
+use Rattle.answers.specs.View.{viewAnswer, isRefused, isEnding}
+use Rattle.answers.specs.declared.Answer.{Answer}
 use Rattle.promises.specs.Promise.{Performs}
+use Rattle.leaving.specs.Refused.{RefusalLeaves}
 
 module _ (p : Plant) (x y : Call) (e : x ≡ y) where
   abbrev Performed : Plant → Call → Type 0
@@ -53,3 +56,15 @@ in-none (Report s) h = absurd (miss others 14 tt h)
 
 pub ends-none : (p : Plant) (c : Call) → OneOf others (tagOf the-type c) → Ended p c c refl (p .sessions) c
 ends-none p c h = (λ k. rw (in-none c h) refl, λ f. f)
+
+-- ── what a refusal leaves of any plant ──
+module _ (p : Plant) (a : Answer) (e : Bool) (ee : e ≡ isEnding (viewAnswer a)) where
+  pub leaves-others : e ≡ true → (t : Sessions) → RefusalLeaves p a (withSessions p t)
+  leaves-others h t = record { unchanged = λ r n. absurd (true≢false (sym h ∙ ee ∙ n)); others = λ n. refl }
+
+  module _ (h : e ≡ false) where
+    pub leaves-all : RefusalLeaves p a p
+    leaves-all = record { unchanged = λ r n. refl; others = λ n. refl }
+
+    pub was-accepted : (r : Bool) → r ≡ isRefused (viewAnswer a) → r ≡ false → (q : Plant) → RefusalLeaves p a q
+    was-accepted r er g q = record { unchanged = λ i n. absurd (true≢false (sym i ∙ sym er ∙ g)); others = λ n. absurd (true≢false (sym n ∙ sym ee ∙ h)) }

@@ -6,6 +6,7 @@ ghost use Rattle.calls.specs.View.{viewCall};
 ghost use Rattle.plant.specs.View.{viewPlant, keptPlant, plantForm};
 ghost use Rattle.plant.specs.With.{withSessions};
 ghost use Rattle.promises.specs.Promise.{Performs, Leaves, Keeps};
+ghost use Rattle.leaving.specs.Refused.{RefusalLeaves};
 use answers::Answer;
 use calls::Call;
 use plant::Plant;
@@ -127,6 +128,7 @@ fn performed(mut p: Plant, c: Call) -> Plant
 }
 
 pub fn after(mut p: Plant, c: Call, a: Answer) -> Plant
+    ensures refused { λ r. ⌜ RefusalLeaves p a r ⌝ }
     ensures shows { λ r. ⌜ Leaves (viewCall c) p a r ⌝ }
     ensures form { λ r. ⌜ (plantForm p ≡ true → plantForm r ≡ true) ⌝ }
     ensures kept { λ r. ⌜ Keeps (viewCall c) p a r ⌝ }

@@ -136,12 +136,12 @@ done (Faulty r) p q lent out len a d h room k =
 abbrev Promised : List ℕ → List ℕ → List ℕ → ℕ → Plant → Plant → Type 0
 Promised line lent out len p q =
     (longest ≤ length lent → keptPlant p ≡ true → Answered (said line) p lent out len q)
-    × ((length lent < longest → (q ≡ p) × ((len ≡ 0) × (out ≡ lent))) × (len ≤ length lent))
+    × ((length lent < longest → (q ≡ p) × ((len ≡ 0) × (out ≡ lent))) × ((len ≤ length lent) × (plantForm p ≡ true → plantForm q ≡ true)))
 
 pub serves : (line lent out : List ℕ) (len : ℕ) (p q : Plant) (x y : Said) → x ≡ y → viewSaid x ≡ said line → longest ≤ length lent → len ≤ length lent → (a : Answer)
-    → (longest ≤ length lent → keptPlant p ≡ true → Tells y p lent out len a) → Done y p a q → Promised line lent out len p q
-serves line lent out len p q x y e es room l a h d =
-    (λ r k. subst (λ s. Answered s p lent out len q) (ap viewSaid (sym e) ∙ es) (done y p q lent out len a d h r k), (λ f. absurd (omega (arith, f, room)), l))
+    → (longest ≤ length lent → keptPlant p ≡ true → Tells y p lent out len a) → Done y p a q → (plantForm p ≡ true → plantForm q ≡ true) → Promised line lent out len p q
+serves line lent out len p q x y e es room l a h d f =
+    (λ r k. subst (λ s. Answered s p lent out len q) (ap viewSaid (sym e) ∙ es) (done y p q lent out len a d h r k), (λ few. absurd (omega (arith, few, room)), (l, f)))
 
 pub too-few : (line lent : List ℕ) (p : Plant) (len : ℕ) → len ≡ 0 → length lent < longest → Promised line lent lent len p p
-too-few line lent p len e h = (λ r k. absurd (omega (arith, r, h)), (λ l. (refl, (e, refl)), omega (arith, e)))
+too-few line lent p len e h = (λ r k. absurd (omega (arith, r, h)), (λ l. (refl, (e, refl)), (omega (arith, e), λ f. f)))

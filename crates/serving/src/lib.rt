@@ -8,7 +8,7 @@ ghost use Rattle.format.specs.Lines.{said};
 ghost use Rattle.format.specs.Serving.{placesShown, lentWords};
 ghost use Rattle.calls.specs.View.{viewCall};
 ghost use Rattle.keys.specs.View.{viewKeys};
-ghost use Rattle.plant.specs.View.{keptPlant};
+ghost use Rattle.plant.specs.View.{plantForm, keptPlant};
 ghost use Rattle.plant.specs.declared.Plant.{Plant};
 ghost use Rattle.answers.specs.declared.Answer.the-variants.{Refused};
 ghost use Rattle.lines.specs.declared.Said.the-variants.{Says, Faulty};
@@ -71,6 +71,7 @@ pub fn serve(p: Plant, line: &[u8], out: &mut [u8]) -> Served
     ensures serves { λ r. ⌜ (longest ≤ length (now (out .entry)) → keptPlant p ≡ true → Answered (said (now (line .entry))) p (now (out .entry)) (now (out .exit)) (r .len) (r .plant)) ⌝ }
     ensures short { λ r. ⌜ (length (now (out .entry)) < longest → (r .plant ≡ p) × ((r .len ≡ 0) × (now (out .exit) ≡ now (out .entry)))) ⌝ }
     ensures within { λ r. ⌜ r .len ≤ length (now (out .entry)) ⌝ }
+    ensures form { λ r. ⌜ (plantForm p ≡ true → plantForm (r .plant) ≡ true) ⌝ }
 {
     if out.len() < printing::LONGEST {
         return Served { plant: p, len: 0 };

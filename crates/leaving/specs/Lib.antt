@@ -1,0 +1,2 @@
+-- What a refusal leaves of any plant.
+pub mod Refused
