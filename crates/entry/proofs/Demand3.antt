@@ -18,17 +18,17 @@ use Rattle.calls.specs.View.{viewCall}
 use Rattle.entry.specs.Ran.{Ran}
 use Rattle.entry.specs.Demand3.{Event, Runs, left, noted, callsOf, Drains, Holds, Demand3}
 
-abbrev world : Plant → History → World
+abbrev pub world : Plant → History → World
 world p h = record { plant = viewPlant p; history = h }
 
 -- the turns of the rules that a list of calls is
-record Replay (p : Plant) (es : List Event) : Type 0 where
-  ts : List Turn
-  calls : R.callsOf ts ≡ callsOf es
-  allowed : AllAllowed ts (viewPlant p)
-  ends : (h : History) → turns ts (world p h) ≡ world (left p es) (noted es h)
-  fine : NoneRefused ts (viewPlant p) → all (λ e. isFine (viewAnswer (e .answer))) es ≡ true
-  keeps : keptPlant (left p es) ≡ true
+pub record Replay (p : Plant) (es : List Event) : Type 0 where
+  pub ts : List Turn
+  pub calls : R.callsOf ts ≡ callsOf es
+  pub allowed : AllAllowed ts (viewPlant p)
+  pub ends : (h : History) → turns ts (world p h) ≡ world (left p es) (noted es h)
+  pub fine : NoneRefused ts (viewPlant p) → all (λ e. isFine (viewAnswer (e .answer))) es ≡ true
+  pub keeps : keptPlant (left p es) ≡ true
 
 -- one call more in front
 more : (p : Plant) (e : Event) (es : List Event) → Ran (e .call) (e .lent) p (e .answer) (e .words) (e .plant) → Replay (e .plant) es → Replay p (e ∷ es)
@@ -47,7 +47,7 @@ more p e es r l =
       keeps = l .keeps;
     }
 
-replay : (p : Plant) (es : List Event) → keptPlant p ≡ true → Runs p es → Replay p es
+pub replay : (p : Plant) (es : List Event) → keptPlant p ≡ true → Runs p es → Replay p es
 replay p [] k rs = record { ts = []; calls = refl; allowed = tt; ends = λ h. refl; fine = λ n. refl; keeps = k }
 replay p (e ∷ es) k rs = let r = rs .0 k in more p e es r (replay (e .plant) es (r .keeps) (rs .1))
 

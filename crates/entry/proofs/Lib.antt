@@ -1,3 +1,4 @@
--- The entry's promise from its two parts, and demand 3 of the code.
+-- The entry's promise from its two parts, and the three demands of the code.
 mod Laws
 pub mod Demand3
+pub mod Demands
