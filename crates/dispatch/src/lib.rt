@@ -5,6 +5,7 @@ ghost use mathlib.Core.List.{List};
 ghost use lib.IntN.{ℤ};
 ghost use Rattle.calls.specs.View.{viewCall};
 ghost use Rattle.plant.specs.View.{keptPlant};
+ghost use Rattle.answers.specs.View.{viewAnswer, isRefused};
 ghost use Rattle.answers.specs.Own.{isAnswerOf};
 ghost use Rattle.promises.specs.Promise.{result, Answers};
 ghost use Rattle.dispatch.specs.Plain.{isPlain};
@@ -52,6 +53,7 @@ pub fn answer(p: Plant, c: Call, words: &mut [i32]) -> Answer
     ensures answers { λ r. ⌜ Answers (viewCall c) (now (words .entry)) p r ⌝ }
     ensures fills { λ r. ⌜ (keptPlant p ≡ true → now (words .exit) ≡ result (viewCall c) (now (words .entry)) p .words) ⌝ }
     ensures own { λ r. ⌜ isAnswerOf (viewCall c) r ≡ true ⌝ }
+    ensures memory { λ r. ⌜ (isRefused (viewAnswer r) ≡ true → now (words .exit) ≡ now (words .entry)) ⌝ }
 {
     match c {
         Call::Read(s, k) => {

@@ -2,6 +2,7 @@
 ghost use mathlib.Core.Path.{_≡_};
 ghost use mathlib.Core.Bool.{true};
 ghost use Rattle.plant.specs.View.{plantForm, keptPlant};
+ghost use Rattle.answers.specs.View.{viewAnswer, isRefused};
 ghost use Rattle.answers.specs.Own.{isAnswerOf};
 ghost use Rattle.calls.specs.View.{viewCall};
 ghost use Rattle.leaving.specs.Refused.{RefusalLeaves};
@@ -20,6 +21,7 @@ pub fn run(p: Plant, c: Call, words: &mut [i32]) -> Outcome
     ensures own { λ r. ⌜ isAnswerOf (viewCall c) (r .answer) ≡ true ⌝ }
     ensures form { λ r. ⌜ (plantForm p ≡ true → plantForm (r .plant) ≡ true) ⌝ }
     ensures refused { λ r. ⌜ RefusalLeaves p (r .answer) (r .plant) ⌝ }
+    ensures memory { λ r. ⌜ (isRefused (viewAnswer (r .answer)) ≡ true → now (words .exit) ≡ now (words .entry)) ⌝ }
 {
     let answer = dispatch::answer(p, c, words);
     let plant = leaving::after(p, c, answer);

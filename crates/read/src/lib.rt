@@ -30,6 +30,7 @@ pub fn ask(p: Plant, session: i64, key: i64, words: &mut [i32]) -> Seen
     ensures own { λ r. ⌜ isAnswerOf (Read session key) (r .answer) ≡ true ⌝ }
     ensures shows { λ r. ⌜ (isRefused (viewAnswer (r .answer)) ≡ false → Shows session key p (r .shown)) ⌝ }
     ensures form { λ r. ⌜ (plantForm p ≡ true → cachedForm (r .shown .fields) ≡ true) ⌝ }
+    ensures memory { λ r. ⌜ (isRefused (viewAnswer (r .answer)) ≡ true → now (words .exit) ≡ now (words .entry)) ⌝ }
 {
     let store = p.store;
     let keys = p.keys;

@@ -30,17 +30,17 @@ returns c =
     let e = back2 Read _ _ (c .before .before .before .before .c .given .1) (search needs) (search needs) in
     let a = c .before .ask .result .answer in
     let h = c .before .ask .ensures in
-    let x = answered (c .before .before .before .before .before .before .args .p) _ _ e _ _ a (h .1 .0, h .1 .1 .0) in (x .0, (x .1, own _ _ e a (h .1 .1 .1 .0)))
+    let x = answered (c .before .before .before .before .before .before .args .p) _ _ e _ _ a (h .1 .0, h .1 .1 .0) in (x .0, (x .1, (own _ _ e a (h .1 .1 .1 .0), h .1 .1 .1 .1 .1 .1)))
 
 returns-2 : tie.Need-returns-2
 returns-2 c =
     let e = back5 Change _ _ _ _ _ (c .before .before .c2 .given .1) (search needs) (search needs) (search needs) (search needs) (search needs) in
-    let x = fills-none (c .before .before .before .before .args .p) _ _ e _ _ (c .answer .result) refl (λ h. h) (c .answer .ensures .1 .0 _) in (x .0, (x .1, own _ _ e (c .answer .result) (c .answer .ensures .1 .1)))
+    let x = fills-none (c .before .before .before .before .args .p) _ _ e _ _ (c .answer .result) refl (λ h. h) (c .answer .ensures .1 .0 _) in (x .0, (x .1, (own _ _ e (c .answer .result) (c .answer .ensures .1 .1), λ t. refl)))
 
 returns-3 : tie.Need-returns-3
 returns-3 c =
     let t = not-seeing (c .before .before .args .c) (c .before .match .keys3) in
-    let x = plain-answered (c .before .before .args .p) (c .before .before .args .c) t _ (c .plain .result) (c .plain .ensures .0) in (x .0, (x .1, c .plain .ensures .1 t))
+    let x = plain-answered (c .before .before .args .p) (c .before .before .args .c) t _ (c .plain .result) (c .plain .ensures .0) in (x .0, (x .1, (c .plain .ensures .1 t, λ i. refl)))
 
 pub answer-spec : {M : Type 1} → statement M
 answer-spec =

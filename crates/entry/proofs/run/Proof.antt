@@ -18,7 +18,7 @@ returns c =
     let a = c .before .before .answer .ensures in
     let q = c .after .ensures in (
       ran _ _ _ _ _ (c .before .before .answer .result) (a .0) (a .1 .0) (q .1 .0) (q .1 .1 .1),
-      (a .1 .1, (q .1 .1 .0, q .0)),
+      (a .1 .1 .0, (q .1 .1 .0, (q .0, a .1 .1 .1))),
     )
 
 pub run-spec : {M : Type 1} → statement M

@@ -28,7 +28,7 @@ nothing-requires c κs = search needs
 returns : tie.Need-returns
 returns c = (
   λ h. turned-found (c .before .before .before .before .before .before .before .before .before .before .before .before .args .p) _ (search needs) _ (c .before .before .before .before .before .session .ensures) _ (search needs) _ (c .before .before .before .before .index .ensures) _ (c .before .before .before .refusal .result) (c .before .before .before .refusal .ensures) _ (c .before .before .is-refused .ensures) (c .before .if1 .taken) h,
-  (search (turned-away, needs), (search (none-touched, needs), (search (own-refusal, needs), (λ h. absurd (true≢false (sym (c .before .if1 .taken) ∙ c .before .before .is-refused .ensures ∙ h)), λ f. c .nothing .ensures)))),
+  (search (turned-away, needs), (search (none-touched, needs), (search (own-refusal, needs), (λ h. absurd (true≢false (sym (c .before .if1 .taken) ∙ c .before .before .is-refused .ensures ∙ h)), (λ f. c .nothing .ensures, λ h. refl))))),
 )
 
 shown-requires : tie.Need-shown-requires
@@ -43,7 +43,7 @@ same-length c = search needs
 returns-2 : tie.Need-returns-2
 returns-2 c = (
   λ h. shown-found (c .before .before .before .before .before .before .before .before .before .before .before .before .before .before .before .args .p) _ (search needs) _ (c .before .before .before .before .before .before .before .before .session .ensures) _ (search needs) _ (c .before .before .before .before .before .before .before .index .ensures) _ (c .before .before .before .before .before .before .refusal .result) (c .before .before .before .before .before .before .refusal .ensures) _ (c .before .before .before .before .before .is-refused .ensures) (c .before .before .before .before .if1 .left) (c .before .before .before .shown .result .mark) (c .before .before .before .shown .ensures .0) _ _ (c .before .before .before .shown .ensures .1 .0) (search needs) h,
-  (search (marked, needs), (search (filled, needs), (refl, (λ h. search (shown-so, needs), λ f. let x = form-parts _ f in c .before .before .before .shown .ensures .1 .1 (x .store) (x .cache))))),
+  (search (marked, needs), (search (filled, needs), (refl, (λ h. search (shown-so, needs), (λ f. let x = form-parts _ f in c .before .before .before .shown .ensures .1 .1 (x .store) (x .cache), λ h. absurd (true≢false (sym h))))))),
 )
 
 pub ask-spec : {M : Type 1} → statement M
