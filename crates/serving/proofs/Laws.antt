@@ -41,7 +41,8 @@ use Rattle.lines.specs.declared.Said.{Said}
 use Rattle.lines.specs.declared.Said.the-variants.{Says, Faulty}
 use Rattle.promises.specs.Promise.{chosen, result, Answers, Leaves, Keeps}
 use Rattle.promises.proofs.Chosen.{chosen-allowed}
-use Rattle.serving.specs.Answered.{Answered, Told, Tells}
+use Rattle.leaving.specs.Refused.{RefusalLeaves}
+use Rattle.serving.specs.Answered.{Answered, Told, Tells, Line, LineLeaves}
 
 -- ── the words shown ──
 abbrev others : List ℕ
@@ -86,14 +87,29 @@ unfolding taken
 within bs lent len e =
     byCase (leb (length bs) (length lent)) (λ t. let n : len ≡ length bs = e ∙ rw t refl in omega (arith, n, leb-true (length bs) (length lent) t)) (λ t. let n : len ≡ 0 = e ∙ rw t refl in omega (arith, n))
 
+-- where there is room for the longest line
+module _ (bs lent out : List ℕ) (len : ℕ) (room : longest ≤ length lent) (short : length bs ≤ longest) (eo : out ≡ printed bs lent) (el : len ≡ taken bs lent) where
+  counted : len ≡ length bs
+  counted = el ∙ fits-taken bs lent (omega (arith, room, short))
+
+  in-front : out ≡ bs ++ drop len lent
+  in-front = eo ∙ fits-printed bs lent (omega (arith, room, short)) ∙ ap (λ n. bs ++ drop n lent) (sym counted)
+
+-- ── the line printed, whichever the plant ──
+pub lined : (a : Answer) (ws : List ℤ) (lent out : List ℕ) (len : ℕ) → length ws ≤ wordsPerField * placeLimit
+    → out ≡ printed (ended (answerLine (viewAnswer a) ws)) lent → len ≡ taken (ended (answerLine (viewAnswer a) ws)) lent → longest ≤ length lent → Line a lent out len
+lined a ws lent out len lw eo el room =
+    let short = line-short a ws (omega (arith, lw)) in
+    record { words = ws; prints = in-front _ lent out len room short eo el; counts = counted _ lent out len room short eo el }
+
+pub few-words : (n : ℕ) (ws : List ℤ) → length ws ≡ wordsPerField * placeLimit → length (take n ws) ≤ wordsPerField * placeLimit
+few-words n ws e = rw (length-take n ws, e) (omega arith)
+
 -- ── what a line says is answered ──
 module _ (p : Plant) (x : Said) (bs lent out : List ℕ) (len : ℕ) (room : longest ≤ length lent) (short : length bs ≤ longest)
     (eo : out ≡ printed bs lent) (el : len ≡ taken bs lent) (eb : bs ≡ performed (viewSaid x) (chosen (viewPlant p)) (viewPlant p) .bytes) where
   replied : (a : Answer) → Told x p a → Tells x p lent out len a
-  replied a t =
-      let fits : length bs ≤ length lent = omega (arith, room, short) in
-      let n : len ≡ length bs = el ∙ fits-taken bs lent fits in
-      record { prints = eo ∙ fits-printed bs lent fits ∙ rw (n, eb) refl; counts = n ∙ ap length eb; told = t }
+  replied a t = record { prints = in-front bs lent out len room short eo el ∙ ap (λ l. l ++ drop len lent) eb; counts = counted bs lent out len room short eo el ∙ ap length eb; told = t }
 
 -- a call, of every plant on which that is its answer
 pub told : (keys : Keys) (c : Call) (a : Answer) (ws : List ℤ) (n : ℕ) (lent out : List ℕ) (len : ℕ) → n ≡ wordsPerField * placesShown (viewCall c) (viewKeys keys)
@@ -102,7 +118,7 @@ pub told : (keys : Keys) (c : Call) (a : Answer) (ws : List ℤ) (n : ℕ) (lent
     → longest ≤ length lent → keptPlant p ≡ true → Tells (Says c) p lent out len a
 unfolding viewPlant
 told keys c a ws n lent out len en eo el p ek answers fills lw room k =
-    replied p (Says c) (ended (answerLine (viewAnswer a) (take n ws))) lent out len room (line-short a (take n ws) (rw (length-take n ws, lw) (omega arith)))
+    replied p (Says c) (ended (answerLine (viewAnswer a) (take n ws))) lent out len room (line-short a (take n ws) (few-words n ws lw))
     eo el (rw (answers k, fills k, en, ← ek) refl) a (answers k)
 
 -- a line that says none
@@ -136,12 +152,14 @@ done (Faulty r) p q lent out len a d h room k =
 abbrev Promised : List ℕ → List ℕ → List ℕ → ℕ → Plant → Plant → Type 0
 Promised line lent out len p q =
     (longest ≤ length lent → keptPlant p ≡ true → Answered (said line) p lent out len q)
-    × ((length lent < longest → (q ≡ p) × ((len ≡ 0) × (out ≡ lent))) × ((len ≤ length lent) × (plantForm p ≡ true → plantForm q ≡ true)))
+    × ((length lent < longest → (q ≡ p) × ((len ≡ 0) × (out ≡ lent)))
+    × ((len ≤ length lent) × ((plantForm p ≡ true → plantForm q ≡ true) × (longest ≤ length lent → LineLeaves p lent out len q))))
 
 pub serves : (line lent out : List ℕ) (len : ℕ) (p q : Plant) (x y : Said) → x ≡ y → viewSaid x ≡ said line → longest ≤ length lent → len ≤ length lent → (a : Answer)
-    → (longest ≤ length lent → keptPlant p ≡ true → Tells y p lent out len a) → Done y p a q → (plantForm p ≡ true → plantForm q ≡ true) → Promised line lent out len p q
-serves line lent out len p q x y e es room l a h d f =
-    (λ r k. subst (λ s. Answered s p lent out len q) (ap viewSaid (sym e) ∙ es) (done y p q lent out len a d h r k), (λ few. absurd (omega (arith, few, room)), (l, f)))
+    → (longest ≤ length lent → keptPlant p ≡ true → Tells y p lent out len a) → Done y p a q → (plantForm p ≡ true → plantForm q ≡ true)
+    → Line a lent out len → RefusalLeaves p a q → Promised line lent out len p q
+serves line lent out len p q x y e es room l a h d f b n =
+    (λ r k. subst (λ s. Answered s p lent out len q) (ap viewSaid (sym e) ∙ es) (done y p q lent out len a d h r k), (λ few. absurd (omega (arith, few, room)), (l, (f, λ r. record { answer = a; line = b; refusal = n }))))
 
 pub too-few : (line lent : List ℕ) (p : Plant) (len : ℕ) → len ≡ 0 → length lent < longest → Promised line lent lent len p p
-too-few line lent p len e h = (λ r k. absurd (omega (arith, r, h)), (λ l. (refl, (e, refl)), (omega (arith, e), λ f. f)))
+too-few line lent p len e h = (λ r k. absurd (omega (arith, r, h)), (λ l. (refl, (e, refl)), (omega (arith, e), (λ f. f, λ r. absurd (omega (arith, r, h))))))

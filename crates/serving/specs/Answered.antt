@@ -4,11 +4,12 @@ use Prim.Native.Nat.{ℕ}
 use mathlib.Core.Path.{_≡_}
 use mathlib.Core.Bool.{true}
 use mathlib.Core.List.{List, _++_}
+use lib.IntN.{ℤ}
 use lib.ListN.{drop, length}
 use Rattle.rules.specs.Calls.{Pick}
 use Rattle.rules.specs.Step.{Allowed}
 use Rattle.format.specs.Lines as L
-use Rattle.format.specs.Serving.{lentWords, performed}
+use Rattle.format.specs.Serving.{lentWords, ended, performed}
 use Rattle.plant.specs.View.{viewPlant, keptPlant}
 use Rattle.plant.specs.declared.Plant.{Plant}
 use Rattle.answers.specs.View.{viewAnswer}
@@ -18,6 +19,7 @@ use Rattle.lines.specs.View.{viewSaid}
 use Rattle.lines.specs.declared.Said.{Said}
 use Rattle.lines.specs.declared.Said.the-variants.{Says, Faulty}
 use Rattle.promises.specs.Promise.{chosen, result}
+use Rattle.leaving.specs.Refused.{RefusalLeaves}
 
 pub record Answered (said : L.Said) (p : Plant) (lent out : List ℕ) (len : ℕ) (q : Plant) : Type 0 where
   pub pick : Pick
@@ -37,3 +39,16 @@ pub record Tells (said : Said) (p : Plant) (lent out : List ℕ) (len : ℕ) (a 
   pub prints : out ≡ (performed (viewSaid said) (chosen (viewPlant p)) (viewPlant p)) .bytes ++ drop len lent
   pub counts : len ≡ length ((performed (viewSaid said) (chosen (viewPlant p)) (viewPlant p)) .bytes)
   pub told : Told said p a
+
+-- ── of any plant, whether it keeps the tables' rules or not ──
+-- the bytes printed are the answer's line, with some words
+pub record Line (a : Answer) (lent out : List ℕ) (len : ℕ) : Type 0 where
+  pub words : List ℤ
+  pub prints : out ≡ ended (L.answerLine (viewAnswer a) words) ++ drop len lent
+  pub counts : len ≡ length (ended (L.answerLine (viewAnswer a) words))
+
+-- and where that answer is a refusal the plant left is as it was
+pub record LineLeaves (p : Plant) (lent out : List ℕ) (len : ℕ) (q : Plant) : Type 0 where
+  pub answer : Answer
+  pub line : Line answer lent out len
+  pub refusal : RefusalLeaves p answer q

@@ -14,7 +14,7 @@ ghost use Rattle.answers.specs.declared.Answer.the-variants.{Refused};
 ghost use Rattle.lines.specs.declared.Said.the-variants.{Says, Faulty};
 ghost use Rattle.promises.specs.Promise.{result, Answers};
 ghost use Rattle.printing.specs.Line.{longest};
-ghost use Rattle.serving.specs.Answered.{Answered, Tells};
+ghost use Rattle.serving.specs.Answered.{Answered, Tells, Line, LineLeaves};
 use answers::Answer;
 use answers::Refusal;
 use calls::Call;
@@ -52,6 +52,7 @@ fn shown(keys: Keys, c: Call) -> usize
 pub fn tell(keys: Keys, c: Call, a: Answer, words: &[i32], out: &mut [u8]) -> usize
     ensures tells { λ r. ⌜ ((p : Plant) → p .keys ≡ keys → Answers (viewCall c) lentWords p a → (keptPlant p ≡ true → now (words .entry) ≡ result (viewCall c) lentWords p .words) → length (now (words .entry)) ≡ wordsPerField * placeLimit → longest ≤ length (now (out .entry)) → keptPlant p ≡ true → Tells (Says c) p (now (out .entry)) (now (out .exit)) r a) ⌝ }
     ensures within { λ r. ⌜ r ≤ length (now (out .entry)) ⌝ }
+    ensures line { λ r. ⌜ (length (now (words .entry)) ≡ wordsPerField * placeLimit → longest ≤ length (now (out .entry)) → Line a (now (out .entry)) (now (out .exit)) r) ⌝ }
 {
     let n = shown(keys, c);
     printing::answer(a, words, n, out)
@@ -61,6 +62,7 @@ pub fn tell(keys: Keys, c: Call, a: Answer, words: &[i32], out: &mut [u8]) -> us
 pub fn refuse(r: Refusal, out: &mut [u8]) -> usize
     ensures tells { λ n. ⌜ ((p : Plant) → longest ≤ length (now (out .entry)) → keptPlant p ≡ true → Tells (Faulty r) p (now (out .entry)) (now (out .exit)) n (Refused r)) ⌝ }
     ensures within { λ n. ⌜ n ≤ length (now (out .entry)) ⌝ }
+    ensures line { λ n. ⌜ (longest ≤ length (now (out .entry)) → Line (Refused r) (now (out .entry)) (now (out .exit)) n) ⌝ }
 {
     let none = [0i32; 1];
     printing::answer(Answer::Refused(r), &none, 0, out)
@@ -72,6 +74,7 @@ pub fn serve(p: Plant, line: &[u8], out: &mut [u8]) -> Served
     ensures short { λ r. ⌜ (length (now (out .entry)) < longest → (r .plant ≡ p) × ((r .len ≡ 0) × (now (out .exit) ≡ now (out .entry)))) ⌝ }
     ensures within { λ r. ⌜ r .len ≤ length (now (out .entry)) ⌝ }
     ensures form { λ r. ⌜ (plantForm p ≡ true → plantForm (r .plant) ≡ true) ⌝ }
+    ensures refused { λ r. ⌜ (longest ≤ length (now (out .entry)) → LineLeaves p (now (out .entry)) (now (out .exit)) (r .len) (r .plant)) ⌝ }
 {
     if out.len() < printing::LONGEST {
         return Served { plant: p, len: 0 };

@@ -41,16 +41,16 @@ same-length c = search needs
 
 returns-2 : tie.Need-returns-2
 returns-2 c =
-    serves _ _ _ (c .before .before .before .tell .result) (c .before .before .before .before .before .before .before .before .before .before .before .before .before .before .before .before .args .p) _ _ _ (c .before .before .before .before .before .before .before .before .before .before .said .given .1) (c .before .before .before .before .before .before .before .before .before .before .before .before .parse .ensures) (c .before .before .before .before .before .before .before .before .before .before .before .before .before .if1 .left) (c .before .before .before .tell .ensures .1) (c .before .before .before .before .before .before .before .answer .result)
-    (c .before .before .before .tell .ensures .0 (c .before .before .before .before .before .before .before .before .before .before .before .before .before .before .before .before .args .p) refl (c .before .before .before .before .before .before .before .answer .ensures .0) (c .before .before .before .before .before .before .before .answer .ensures .1 .0) (search needs)) (c .after .ensures .1 .0, c .after .ensures .1 .1 .1) (c .after .ensures .1 .1 .0)
+    serves _ _ _ (c .before .before .before .tell .result) (c .before .before .before .before .before .before .before .before .before .before .before .before .before .before .before .before .args .p) _ _ _ (c .before .before .before .before .before .before .before .before .before .before .said .given .1) (c .before .before .before .before .before .before .before .before .before .before .before .before .parse .ensures) (c .before .before .before .before .before .before .before .before .before .before .before .before .before .if1 .left) (c .before .before .before .tell .ensures .1 .0) (c .before .before .before .before .before .before .before .answer .result)
+    (c .before .before .before .tell .ensures .0 (c .before .before .before .before .before .before .before .before .before .before .before .before .before .before .before .before .args .p) refl (c .before .before .before .before .before .before .before .answer .ensures .0) (c .before .before .before .before .before .before .before .answer .ensures .1 .0) (search needs)) (c .after .ensures .1 .0, c .after .ensures .1 .1 .1) (c .after .ensures .1 .1 .0) (c .before .before .before .tell .ensures .1 .1 (search needs) (c .before .before .before .before .before .before .before .before .before .before .before .before .before .if1 .left)) (c .after .ensures .0)
 
 same-length-2 : tie.Need-same-length-2
 same-length-2 c = search needs
 
 returns-3 : tie.Need-returns-3
 returns-3 c =
-    serves _ _ _ (c .before .before .refuse .result) (c .before .before .before .before .before .before .before .before .before .before .before .args .p) _ _ _ (c .before .before .before .before .before .said2 .given .1) (c .before .before .before .before .before .before .before .parse .ensures) (c .before .before .before .before .before .before .before .before .if1 .left) (c .before .before .refuse .ensures .1) (Refused _)
-    (c .before .before .refuse .ensures .0 (c .before .before .before .before .before .before .before .before .before .before .before .args .p)) refl (λ f. f)
+    serves _ _ _ (c .before .before .refuse .result) (c .before .before .before .before .before .before .before .before .before .before .before .args .p) _ _ _ (c .before .before .before .before .before .said2 .given .1) (c .before .before .before .before .before .before .before .parse .ensures) (c .before .before .before .before .before .before .before .before .if1 .left) (c .before .before .refuse .ensures .1 .0) (Refused _)
+    (c .before .before .refuse .ensures .0 (c .before .before .before .before .before .before .before .before .before .before .before .args .p)) refl (λ f. f) (c .before .before .refuse .ensures .1 .1 (c .before .before .before .before .before .before .before .before .if1 .left)) (record { unchanged = λ r n. refl; others = λ n. refl })
 
 pub serve-spec : {M : Type 1} → statement M
 serve-spec =
