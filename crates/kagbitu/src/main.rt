@@ -1,40 +1,127 @@
 // The line program: lines of standard input served one after the other on a plant that starts empty, their answers on standard output.
+mod outcome;
+mod part;
+
+ghost use Prim.Native.Nat.{_≤_};
+ghost use mathlib.Core.Path.{_≡_};
+ghost use lib.ListN.{length};
+ghost use Rattle.kagbitu.specs.Outcome.{Answered};
+ghost use Rattle.printing.specs.Line.{longest};
+ghost use Rattle.kagbitu.specs.Run.{Ended, AllServed};
 use feeding::Server;
 use libc::STDIN_FILENO;
 use libc::STDOUT_FILENO;
+use outcome::Outcome;
+use part::Part;
+
+fn read(piece: &mut [u8]) -> Outcome
+    ensures { λ r. ⌜ Answered (length (now (piece .entry))) r ⌝ }
+{
+    let lent = piece.len();
+    let got = libc::read(STDIN_FILENO, piece);
+    outcome::told(got, os::errno(), lent)
+}
+
+fn write_some(out: &[u8]) -> Outcome
+    ensures { λ r. ⌜ Answered (length (now (out .entry))) r ⌝ }
+{
+    let got = libc::write(STDOUT_FILENO, out);
+    outcome::told(got, os::errno(), out.len())
+}
+
+fn wait() {
+    libc::sched_yield();
+}
+
+fn unread(read: Outcome)
+    requires { ⌜ read ≡ Outcome.Failed ⌝ }
+{
+    os::fail(b"kagbitu: standard input");
+}
+
+fn unwritten() {
+    os::fail(b"kagbitu: standard output");
+}
+
+// Writes all, or says why not. A write that takes some of the bytes is followed by one of the rest.
+fn write(out: &[u8]) -> bool {
+    let mut rest = Part::first(out.len());
+    let mut tries = u64::MAX;
+    while tries > 0 {
+        if rest.is_empty() {
+            return true;
+        }
+        tries -= 1;
+        let at = rest.at;
+        let end = rest.end;
+        let wrote = write_some(&out[at..end]);
+        match wrote {
+            Outcome::Moved(n) => rest = rest.after(n),
+            Outcome::Again => wait(),
+            _ => {
+                unwritten();
+                return false;
+            }
+        }
+    }
+    false
+}
 
 // The end of input ends a line that has begun.
-fn finish(server: Server, out: &mut [u8]) {
+fn finish(server: Server, read: Outcome, out: &mut [u8]) -> usize
+    requires { ⌜ read ≡ Outcome.End ⌝ }
+    requires { ⌜ Ended server ⌝ }
+    ensures within { λ r. ⌜ r ≤ length (now (out .entry)) ⌝ }
+    ensures serves { λ r. ⌜ (longest ≤ length (now (out .entry)) → AllServed server (now (out .exit)) r) ⌝ }
+{
     let finished = feeding::finish(server, out);
-    let wrote = finished.wrote;
-    io::write_all(STDOUT_FILENO, &out[..wrote]);
+    finished.wrote
 }
 
 // A turn reads once, or serves what was read as far as there is room for the answers, so that a line is answered before more input is
-// waited for. A read that fails ends the input. A proved loop has to end, and nothing says that input does: so the turns are counted
-// down, from a number that no run uses up.
+// waited for. A proved loop has to end, and nothing says that input does: so the turns are counted down, and the tries that read nothing yet,
+// from a number that no run uses up.
 fn main() {
     let mut piece = io::large_buffer();
     let mut out = io::large_buffer();
     let mut server = Server::start();
-    let mut at: usize = 0;
-    let mut end: usize = 0;
+    let mut part = Part::first(0);
     let mut turns = u64::MAX;
+    let mut tries = u64::MAX;
     while turns > 0 {
-        turns -= 1;
-        if at == end {
-            at = 0;
-            end = io::count(libc::read(STDIN_FILENO, &mut piece), &piece);
-            if end == 0 {
-                finish(server, &mut out);
-                return;
+        if part.is_empty() {
+            let got = read(&mut piece);
+            match got {
+                Outcome::Moved(n) => {
+                    part = Part::first(n);
+                    turns -= 1;
+                }
+                Outcome::End => {
+                    let wrote = finish(server, got, &mut out);
+                    write(&out[..wrote]);
+                    return;
+                }
+                Outcome::Again => {
+                    if tries == 0 {
+                        return;
+                    }
+                    tries -= 1;
+                    wait();
+                }
+                Outcome::Failed => {
+                    unread(got);
+                    return;
+                }
             }
             continue;
         }
+        let at = part.at;
+        let end = part.end;
         server = feeding::feed(server, &piece[at..end], &mut out);
-        at += server.used;
+        part = part.after(server.used);
+        turns -= 1;
         let wrote = server.wrote;
-        if !io::write_all(STDOUT_FILENO, &out[..wrote]) {
+        if !write(&out[..wrote]) {
             return;
         }
     }

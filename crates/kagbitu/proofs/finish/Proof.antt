@@ -1,35 +1,19 @@
--- `finish` is safe: what was answered lies within the buffer.
+-- `finish` meets its contract.
 use borrow.Author.Needs.{needs}
-use lib.ListN.{length-take}
-use native.Mathlib.Omega.{arith}
+use Rattle.kagbitu.proofs.Run.{all-served}
 use Rattle.kagbitu.proofs.finish.Statement.{statement}
 use Rattle.kagbitu.proofs.finish.Tie as tie
 
 finish-requires : tie.Need-finish-requires
 finish-requires c κs = search needs
 
-slice-reshare-prefix-write-all : tie.Need-slice-reshare-prefix-write-all
-slice-reshare-prefix-write-all c = search needs
-
-slice-aggregate-write-all : tie.Need-slice-aggregate-write-all
-slice-aggregate-write-all c = simp length-take (omega arith)
-
-write-all-requires : tie.Need-write-all-requires
-write-all-requires c κs = search needs
-
 same-length : tie.Need-same-length
 same-length c = search needs
 
 returns : tie.Need-returns
-returns c = search needs
+returns c =
+    let f = c .before .before .finish .ensures in
+    (f .1 .0, λ r. all-served _ (c .before .before .before .before .before .pre .1) _ _ (f .0 r))
 
 pub finish-spec : {M : Type 1} → statement M
-finish-spec =
-    tie.close
-    (tie.spec
-    finish-requires
-    slice-reshare-prefix-write-all
-    slice-aggregate-write-all
-    write-all-requires
-    same-length
-    returns)
+finish-spec = tie.close (tie.spec finish-requires same-length returns)

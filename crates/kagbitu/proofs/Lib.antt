@@ -1,0 +1,3 @@
+-- The proofs of the line program.
+mod Laws
+pub mod Run
