@@ -15,12 +15,12 @@ use Rattle.feeding.specs.Input.{Taken, Takes, left, input, output}
 use Rattle.feeding.specs.declared.Server.{Server}
 
 -- a turn reads at least one byte, where none is unused: the first bytes of the buffer as the read left it
-pub record Read (buffer : List ℕ) (n : ℕ) : Type 0 where
+pub record ReadSome (buffer : List ℕ) (n : ℕ) : Type 0 where
   pub some : 1 ≤ n
   pub within : n ≤ length buffer
 
 -- or feeds all unused bytes to the server, which uses at least one of them
-pub record Served (s : Server) (unused out : List ℕ) (t : Server) : Type 0 where
+pub record FedSome (s : Server) (unused out : List ℕ) (t : Server) : Type 0 where
   pub fed : Fed s unused out t
   pub some : 1 ≤ t .used
   pub within : t .used ≤ length unused
@@ -29,9 +29,9 @@ pub record Served (s : Server) (unused out : List ℕ) (t : Server) : Type 0 whe
 pub data Run (s : Server) : ℕ → List ℕ → List ℕ → Server → List ℕ → Type 0 where
   starts : Run s 0 [] [] s []
   reads : {n : ℕ} {bytes answers : List ℕ} {t : Server} → Run s n bytes answers t []
-      → (buffer : List ℕ) (k : ℕ) → Read buffer k → Run s (suc n) (bytes ++ take k buffer) answers t (take k buffer)
+      → (buffer : List ℕ) (k : ℕ) → ReadSome buffer k → Run s (suc n) (bytes ++ take k buffer) answers t (take k buffer)
   feeds : {n : ℕ} {bytes answers unused : List ℕ} {t : Server} → Run s n bytes answers t unused
-      → (out : List ℕ) (u : Server) → Served t unused out u → Run s (suc n) bytes (answers ++ take (u .wrote) out) u (drop (u .used) unused)
+      → (out : List ℕ) (u : Server) → FedSome t unused out u → Run s (suc n) bytes (answers ++ take (u .wrote) out) u (drop (u .used) unused)
 
 -- some bytes read and answered in so many turns
 pub record Ran (s : Server) (n : ℕ) (t : Server) (unused : List ℕ) : Type 0 where

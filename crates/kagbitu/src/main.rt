@@ -4,9 +4,11 @@ mod part;
 
 ghost use Prim.Native.Nat.{_≤_};
 ghost use mathlib.Core.Path.{_≡_};
+ghost use mathlib.Core.Bool.{true};
 ghost use lib.ListN.{length};
-ghost use Rattle.kagbitu.specs.Outcome.{Answered};
 ghost use Rattle.printing.specs.Line.{longest};
+ghost use Rattle.kagbitu.specs.Outcome.{Answered};
+ghost use Rattle.kagbitu.specs.Written.{AllWritten};
 ghost use Rattle.kagbitu.specs.Run.{Ended, AllServed};
 use feeding::Server;
 use libc::STDIN_FILENO;
@@ -29,10 +31,12 @@ fn write_some(out: &[u8]) -> Outcome
     outcome::told(got, os::errno(), out.len())
 }
 
+// Others run first. A wait for a time would take a struct behind a reference, whose proof is a long one by hand for a case that is rare.
 fn wait() {
     libc::sched_yield();
 }
 
+// Only a read that failed is said to have failed, and the line that has begun is not run.
 fn unread(read: Outcome)
     requires { ⌜ read ≡ Outcome.Failed ⌝ }
 {
@@ -44,7 +48,9 @@ fn unwritten() {
 }
 
 // Writes all, or says why not. A write that takes some of the bytes is followed by one of the rest.
-fn write(out: &[u8]) -> bool {
+fn write(out: &[u8]) -> bool
+    ensures { λ r. ⌜ (r ≡ true → AllWritten (now (out .entry))) ⌝ }
+{
     let mut rest = Part::first(out.len());
     let mut tries = u64::MAX;
     while tries > 0 {
@@ -67,7 +73,7 @@ fn write(out: &[u8]) -> bool {
     false
 }
 
-// The end of input ends a line that has begun.
+// The end of input ends a line that has begun. Nothing else does but byte 10: so what the read came to is asked for.
 fn finish(server: Server, read: Outcome, out: &mut [u8]) -> usize
     requires { ⌜ read ≡ Outcome.End ⌝ }
     requires { ⌜ Ended server ⌝ }

@@ -12,19 +12,6 @@ use Rattle.kagbitu.proofs.Laws.{moved-within, used-inside, used-some, r
 use Rattle.kagbitu.proofs.Run.{ran-none, ran-again, ran-read, ran-fed, ran-all}
 use Rattle.kagbitu.proofs.main.Statement.{statement}
 use Rattle.kagbitu.proofs.main.Tie as tie
-use Rattle.kagbitu.proofs.main.Reads as reads
-use Rattle.kagbitu.proofs.main.Lts as lts
-use Rattle.feeding.proofs.Server.start.Reads as start-reads
-use Rattle.feeding.proofs.feed.Reads as feed-reads
-use Rattle.io.proofs.large_buffer.Reads as large-buffer-reads
-use Rattle.kagbitu.proofs.finish.Reads as finish-reads
-use Rattle.kagbitu.proofs.part.Part.after.Reads as after-reads
-use Rattle.kagbitu.proofs.part.Part.first.Reads as first-reads
-use Rattle.kagbitu.proofs.part.Part.is_empty.Reads as is-empty-reads
-use Rattle.kagbitu.proofs.read.Reads as read-reads
-use Rattle.kagbitu.proofs.unread.Reads as unread-reads
-use Rattle.kagbitu.proofs.wait.Reads as wait-reads
-use Rattle.kagbitu.proofs.write.Reads as write-reads
 
 abbrev Inv-loop : tie.InvT-loop
 Inv-loop piece₀ out₀ server₀ part₀ turns₀ tries₀ piece out server part turns tries =
@@ -160,7 +147,7 @@ feed-requires c κs = search needs
 after-requires : tie.Need-after-requires Inv-loop μ-loop
 after-requires c κs =
     let l = c .before .before .before .before .before .before .before .before .loop in
-    used-inside (l .part) (l .piece) (l .inv .1 .1 .0) _ (c .before .feed .ensures .1 .0 .0)
+    omega (arith, l .inv .1 .1 .0, used-inside (l .part) (l .piece) (l .inv .1 .1 .0) (c .before .feed .result .used) (c .before .feed .ensures .1 .0 .0))
 
 sub-turns-2 : tie.Need-sub-turns-2 Inv-loop μ-loop
 sub-turns-2 c = search needs
