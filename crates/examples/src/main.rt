@@ -1,18 +1,30 @@
 // The worked examples of data/: the lines of each are served on a plant of their own, in pieces of a size of their own because input may
 // be cut anywhere, and the answers are compared with those that stand beside the lines.
-ghost use Prim.Native.Nat.{_≤_};
+ghost use Prim.Native.Nat.{ℕ, _≤_, _<_};
+ghost use mathlib.Core.Path.{_≡_};
+ghost use mathlib.Core.List.{List, [], _++_};
+ghost use Rattle.examples.specs.Comparison.{Exactly, Tells, Compared};
 use feeding::Server;
 use libc::STDOUT_FILENO;
 
-// How many bytes of the answers have come, and whether no other byte came.
+// How many of the bytes that have come are the first of the answers, and whether all are.
 struct Match {
     at: usize,
     same: bool,
 }
 
 impl Match {
+    // Nothing has come.
+    fn start() -> Self
+        ensures { λ r. ⌜ ((answers : List ℕ) → Tells answers [] r) ⌝ }
+    {
+        Match { at: 0, same: true }
+    }
+
     // The bytes of out come.
-    fn add(self, answers: &[u8], out: &[u8]) -> Self {
+    fn add(self, answers: &[u8], out: &[u8]) -> Self
+        ensures { λ r. ⌜ ((came : List ℕ) → Tells (now (answers .entry)) came self → Tells (now (answers .entry)) (came ++ now (out .entry)) r) ⌝ }
+    {
         if !self.same {
             return self;
         }
@@ -20,21 +32,29 @@ impl Match {
         let mut i: usize = 0;
         while i < out.len() {
             if answers.len() <= at {
-                return Match { at, same: false };
+                return Match { at, same: false }; // a byte too many
             }
             if out[i] != answers[at] {
-                return Match { at, same: false };
+                return Match { at, same: false }; // another byte
             }
             at += 1;
             i += 1;
         }
         Match { at, same: true }
     }
+
+    // Whether what has come is the answers, no byte less and no byte more.
+    fn whole(self, answers: &[u8]) -> bool
+        ensures { λ r. ⌜ ((came : List ℕ) → Tells (now (answers .entry)) came self → Exactly r (came ≡ now (answers .entry))) ⌝ }
+    {
+        self.same && self.at == answers.len()
+    }
 }
 
 fn end_of_piece(at: usize, size: usize, end: usize) -> usize
-    requires { ⌜ at ≤ end ⌝ }
-    ensures { λ r. ⌜ at ≤ r ⌝ }
+    requires { ⌜ at < end ⌝ }
+    requires { ⌜ 0 < size ⌝ }
+    ensures { λ r. ⌜ at < r ⌝ }
     ensures { λ r. ⌜ r ≤ end ⌝ }
 {
     if end - at < size {
@@ -43,20 +63,17 @@ fn end_of_piece(at: usize, size: usize, end: usize) -> usize
     at + size
 }
 
-fn serve(lines: &[u8], size: usize, answers: &[u8]) -> Match {
+fn serve(lines: &[u8], size: usize, answers: &[u8]) -> Match
+    requires { ⌜ 0 < size ⌝ }
+    ensures { λ r. ⌜ Compared (now (lines .entry)) (now (answers .entry)) r ⌝ }
+{
     let mut out = io::large_buffer();
     let mut server = Server::start();
-    let mut matched = Match { at: 0, same: true };
+    let mut matched = Match::start();
     let mut at: usize = 0;
     while at < lines.len() {
         let end = end_of_piece(at, size, lines.len());
         server = feeding::feed(server, &lines[at..end], &mut out);
-        if server.used == 0 {
-            return Match {
-                at: matched.at,
-                same: false,
-            };
-        }
         at += server.used;
         let wrote = server.wrote;
         matched = matched.add(answers, &out[..wrote]);
@@ -66,26 +83,31 @@ fn serve(lines: &[u8], size: usize, answers: &[u8]) -> Match {
     matched.add(answers, &out[..wrote])
 }
 
-fn say(name: &[u8], matched: Match, all: usize) {
+fn say(name: &[u8], same: bool, at: usize) {
     io::write_all(STDOUT_FILENO, name);
-    if matched.same && matched.at == all {
+    if same {
         io::write_all(STDOUT_FILENO, b" same\n");
         return;
     }
     io::write_all(STDOUT_FILENO, b" differs at byte ");
-    io::print_decimal(STDOUT_FILENO, matched.at as u64);
+    io::print_decimal(STDOUT_FILENO, at as u64);
     io::write_all(STDOUT_FILENO, b"\n");
 }
 
-fn compare(name: &[u8], lines: i32, answers: i32, size: usize) {
+fn compare(name: &[u8], lines: i32, answers: i32, size: usize)
+    requires { ⌜ 0 < size ⌝ }
+{
     let mut given = io::large_buffer();
     let mut expected = io::large_buffer();
     let n = io::read_full(lines, &mut given);
     let m = io::read_full(answers, &mut expected);
-    say(name, serve(&given[..n], size, &expected[..m]), m);
+    let matched = serve(&given[..n], size, &expected[..m]);
+    say(name, matched.whole(&expected[..m]), matched.at);
 }
 
-fn example(lines: &[u8], answers: &[u8], size: usize) {
+fn example(lines: &[u8], answers: &[u8], size: usize)
+    requires { ⌜ 0 < size ⌝ }
+{
     let from = os::open_read(lines);
     let to = os::open_read(answers);
     if from < 0 {
@@ -142,10 +164,18 @@ fn rules() {
     example(b"refusal-order.lines", b"refusal-order.answers", 1000);
 }
 
+// The answers of these are wrong on purpose.
+fn differences() {
+    example(b"differs-byte.lines", b"differs-byte.answers", 9);
+    example(b"differs-short.lines", b"differs-short.answers", 4096);
+    example(b"differs-long.lines", b"differs-long.answers", 1);
+}
+
 fn main() {
     lines();
     replies();
     mistakes();
     limits();
     rules();
+    differences();
 }

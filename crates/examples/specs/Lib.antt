@@ -1,0 +1,2 @@
+-- What the comparison of an example promises.
+pub mod Comparison
