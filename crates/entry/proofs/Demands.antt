@@ -1,27 +1,21 @@
 -- Demands 1 and 2 of the code: a plant in form is the only one that is seen so, so what the rules claim of the plant seen holds of the struct.
 use mathlib.Core.Path.{_≡_, refl, sym, _∙_, ap, subst}
-use mathlib.Core.Bool.{Bool, true, false, not, true≢false}
-use mathlib.Core.Option.{Option, none, some}
-use mathlib.Core.List.{List, [], _∷_}
-use lib.Dec.{leb}
-use lib.ListN.{length}
-use lib.IntN.{ℤ, _+ℤ_}
-use borrow.Author.Tests.{not-true}
-use Rattle.rules.specs.Limits.{memberLimit}
-use Rattle.rules.specs.Values.{natOf, fits32, Field, absent, number, list}
+use mathlib.Core.Bool.{true, false, true≢false}
+use mathlib.Core.List.{List}
+use lib.IntN.{ℤ}
+use Rattle.rules.specs.Values.{natOf}
 use Rattle.rules.specs.Refusals as R
-use Rattle.rules.specs.Refusals.{Refusal, endsSession, _⇒_, first}
-use Rattle.rules.specs.Changes.{Kind, set, unset, inc, add, push, pull, Update, member, putLast, change, outcomeRefusal, meets}
+use Rattle.rules.specs.Refusals.{Refusal}
 use Rattle.rules.specs.Tables as M
 use Rattle.rules.specs.Calls as C
 use Rattle.rules.specs.Kept.{kept}
-use Rattle.rules.specs.Conditions.{conditions}
-use Rattle.rules.specs.Step.{settle, step}
+use Rattle.rules.specs.Step.{step}
 use Rattle.rules.specs.History.{World, AllAllowed, turns, initial, emptyHistory}
 use Rattle.rules.specs.Claims as K
 use Rattle.rules.specs.Claims.{ShownBy}
-use Rattle.rules.proofs.Laws.{byCase, and-true}
-use Rattle.rules.proofs.Steps.{accepted-fine, refusals-leave, three-ends, four-ends}
+use Rattle.rules.proofs.Laws.{and-true}
+use Rattle.rules.proofs.Steps.{refusals-leave, three-ends, four-ends}
+use Rattle.rules.proofs.Sessionless.{spares-sessions}
 use Rattle.rules.proofs.Frames.{commit-leaves-store}
 use Rattle.rules.proofs.Demand2.{reads-show as of-rules}
 use Rattle.store.proofs.Unique.{store-unique}
@@ -31,7 +25,6 @@ use Rattle.plant.specs.With.{withSessions}
 use Rattle.plant.specs.declared.Plant.{Plant}
 use Rattle.plant.proofs.Formed.{Formed, form-parts, formed}
 use Rattle.plant.proofs.Unique.{plant-unique}
-use Rattle.answers.specs.View.{isRefused}
 use Rattle.calls.specs.View.{viewCall}
 use Rattle.calls.specs.declared.Call.{Call}
 use Rattle.calls.specs.declared.Call.the-variants.{Load, Map, Begin, Read, Change, Commit, Abandon, Advance, Take, Apply, Delete, Cut, Sweep, Store, Report}
@@ -70,91 +63,42 @@ ends r c s h lent p a ws q k x e =
     record { others = but-sessions p q k (x .keeps) _ v; sessions = ap (λ (y : M.Plant). y .slots) v; memory = x .fills ∙ ap (λ y. y .words) z }
 
 -- ── calls without a session ──
--- a condition that does not end a session
-abbrev spares : Option Refusal → Bool
-spares none = true
-spares (some r) = not (endsSession r)
+no-session : (c : Call) → hasSession c ≡ false → K.Spares (viewCall c)
+no-session (Load d f k v) h = spares-sessions .load d f k v
+no-session (Map k n d1 f1 d2 f2 d3 f3 d4 f4) h = spares-sessions .map k n _
+no-session Begin h = spares-sessions .begin
+no-session (Read s k) h = absurd (true≢false h)
+no-session (Change s d f k v) h = absurd (true≢false h)
+no-session (Commit s) h = absurd (true≢false h)
+no-session (Abandon s) h = absurd (true≢false h)
+no-session (Advance n) h = spares-sessions .advance n
+no-session (Take w) h = spares-sessions .take w
+no-session (Apply w f) h = spares-sessions .apply w f
+no-session (Delete w) h = spares-sessions .delete w
+no-session (Cut w) h = spares-sessions .cut w
+no-session Sweep h = spares-sessions .sweep
+no-session (Store n) h = spares-sessions .store n
+no-session (Report s) h = absurd (true≢false h)
 
-spared : (b : Bool) (r : Refusal) → endsSession r ≡ false → spares (b ⇒ r) ≡ true
-unfolding _⇒_
-spared true r e = rw e refl
-spared false r e = refl
+never-three : Never R.wasDoomed
+never-three c h lent p a ws q k x e = no-session c h lent (x .pick) (viewPlant p) R.wasDoomed (sym (x .answers) ∙ e) .0 refl
 
-put-spares : (v : ℤ) (l : List ℤ) → spares (outcomeRefusal (putLast v l)) ≡ true
-unfolding outcomeRefusal putLast
-put-spares v l = byCase (leb memberLimit (length l)) (λ t. rw t refl) (λ t. rw t refl)
+never-four : Never R.exclusiveElsewhere
+never-four c h lent p a ws q k x e = no-session c h lent (x .pick) (viewPlant p) R.exclusiveElsewhere (sym (x .answers) ∙ e) .1 refl
 
-meets-spares : (u : Update) (f : Field) → spares (meets u f) ≡ true
-unfolding meets outcomeRefusal change
-meets-spares u f = go (u .kind) f
-  where
-    go : (k : Kind) (g : Field) → spares (outcomeRefusal (change k (u .value) g)) ≡ true
-    go set g = refl
-    go unset g = refl
-    go inc absent = refl
-    go inc (number a) = byCase (fits32 (a +ℤ u .value)) (λ t. rw t refl) (λ t. rw t refl)
-    go inc (list l) = refl
-    go add absent = refl
-    go add (number a) = refl
-    go add (list l) = byCase (member (u .value) l) (λ t. rw t refl) (λ t. rw t (put-spares (u .value) l))
-    go push absent = refl
-    go push (number a) = refl
-    go push (list l) = put-spares (u .value) l
-    go pull absent = refl
-    go pull (number a) = refl
-    go pull (list l) = refl
-
-abbrev AllSpare : List (Option Refusal) → Type 0
-AllSpare [] = Unit {0}
-AllSpare (o ∷ l) = (spares o ≡ true) × AllSpare l
-
-first-spares : (l : List (Option Refusal)) → AllSpare l → spares (first l) ≡ true
-first-spares [] h = refl
-first-spares (none ∷ l) h = first-spares l (h .1)
-first-spares (some r ∷ l) h = h .0
-
-none-ends : (c : Call) → hasSession c ≡ false → (lent : List ℤ) (p : M.Plant) → AllSpare (conditions (viewCall c) lent p)
-unfolding conditions
-none-ends (Load d f k v) h lent p = (spared _ R.outOfRange refl, (spared _ R.sessionBegun refl, (spared _ R.storeAway refl, (meets-spares _ _, tt))))
-none-ends (Map k n d1 f1 d2 f2 d3 f3 d4 f4) h lent p = (spared _ R.outOfRange refl, (spared _ R.sessionBegun refl, (spared _ R.keyDefined refl, (spared _ R.badPlaces refl, tt))))
-none-ends Begin h lent p = (spared _ R.numbersSpent refl, (spared _ R.slotsFull refl, tt))
-none-ends (Read s k) h lent p = absurd (true≢false h)
-none-ends (Change s d f k v) h lent p = absurd (true≢false h)
-none-ends (Commit s) h lent p = absurd (true≢false h)
-none-ends (Abandon s) h lent p = absurd (true≢false h)
-none-ends (Advance n) h lent p = (spared _ R.outOfRange refl, (spared _ R.clockEnd refl, tt))
-none-ends (Take w) h lent p = (spared _ R.outOfRange refl, (spared _ R.wrongHand refl, (spared _ R.queueLeased refl, (spared _ R.nothingBuffered refl, tt))))
-none-ends (Apply w f) h lent p = (spared _ R.outOfRange refl, (spared _ R.wrongHand refl, (spared _ R.storeAway refl, (spared _ R.rowsFull refl, tt))))
-none-ends (Delete w) h lent p = (spared _ R.outOfRange refl, (spared _ R.wrongHand refl, tt))
-none-ends (Cut w) h lent p = (spared _ R.outOfRange refl, tt)
-none-ends Sweep h lent p = (spared _ R.storeAway refl, tt)
-none-ends (Store n) h lent p = (spared _ R.outOfRange refl, tt)
-none-ends (Report s) h lent p = absurd (true≢false h)
-
-no-session : (c : Call) → hasSession c ≡ false → (lent : List ℤ) (pick : C.Pick) (p : M.Plant) (r : Refusal) → (step (viewCall c) lent pick p) .answer ≡ C.refused r → endsSession r ≡ false
-unfolding step
-no-session c h lent pick p r e = go (first (conditions (viewCall c) lent p)) (first-spares (conditions (viewCall c) lent p) (none-ends c h lent p)) e
-  where
-    go : (o : Option Refusal) → spares o ≡ true → settle o (viewCall c) lent pick p .answer ≡ C.refused r → endsSession r ≡ false
-    go none g z = absurd (true≢false (sym (ap isRefused z) ∙ accepted-fine (viewCall c) lent pick p))
-    go (some y) g z = let i : y ≡ r = cc in not-true (endsSession r) (subst (λ x. not (endsSession x) ≡ true) i g)
-
-never : (r : Refusal) → endsSession r ≡ true → Never r
-never r t c h lent p a ws q k x e = true≢false (sym t ∙ no-session c h lent (x .pick) (viewPlant p) r (sym (x .answers) ∙ e))
-
-ends-session : (r : Refusal) → endsSession r ≡ true → K.EndsSession r → EndsSession r
-ends-session r t h =
+ends-session : (r : Refusal) → Never r → K.EndsSession r → EndsSession r
+ends-session r n h =
     record {
       read = λ s k. ends r (Read s k) s (h .read s k);
       change = λ s d f k v. ends r (Change s d f k v) s (h .change s d f k v);
       commit = λ s. ends r (Commit s) s (h .commit s);
       abandon = λ s. ends r (Abandon s) s (h .abandon s);
       report = λ s. ends r (Report s) s (h .report s);
-      others = never r t;
+      others = n;
     }
 
 pub demand1 : Demand1
-demand1 = record { unchanged = unchanged; threeEnds = ends-session R.wasDoomed refl three-ends; fourEnds = ends-session R.exclusiveElsewhere refl four-ends }
+demand1 = record { unchanged = unchanged; threeEnds = ends-session R.wasDoomed never-three three-ends; fourEnds = ends-session R.exclusiveElsewhere never-four four-ends }
 
 -- ── demand 2 ──
 reads-show : ReadsShow

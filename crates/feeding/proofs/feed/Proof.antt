@@ -139,7 +139,7 @@ add-wrote : tie.Need-add-wrote Inv-loop μ-loop
 add-wrote c =
     let l = c .before .before .before .before .before .before .before .before .before in
     let g = l .before .before .before .before .before .before .before .before .before .good .1 .1 .0 in
-    record { fits = omega (arith, room-left l (c .before .before .before .before .before .before .before .empty .result) (c .before .before .before .before .before .before .before .empty .ensures .0) (c .before .before .refuse .result) (c .before .before .refuse .ensures .1), fed (l .before) .long, g .0, g .1) }
+    record { fits = omega (arith, room-left l (c .before .before .before .before .before .before .before .empty .result) (c .before .before .before .before .before .before .before .empty .ensures .0) (c .before .before .refuse .result) (c .before .before .refuse .ensures .1 .0), fed (l .before) .long, g .0, g .1) }
 
 loop-less : tie.Need-loop-less Inv-loop μ-loop
 loop-less c = less (c .before .before .before .before .before .before .before .before .before)
@@ -148,7 +148,7 @@ loop-again : tie.Need-loop-again Inv-loop μ-loop
 loop-again c =
     let l = c .before .before .before .before .before .before .before .before .before in
     feed-line _ _ _ _ (server (l .before)) (fed (l .before)) _ (l .before .line-end .ensures) (ready (l .before)) (l .if2 .left) (server (l .before) .plant) (c .before .before .before .before .before .before .before .empty .result) (c .before .before .before .before .before .before .before .empty .ensures .0) (c .before .before .before .before .before .before .before .empty .ensures .1) _ _
-    (search (c .before .out .given, c .slice-known2 .given, c .before .before .refuse, needs)) (Faulty _) (ap viewSaid (sym (c .before .before .before .before .before .said2 .given .1)) ∙ c .before .before .before .before .before .before .before .before .heard .ensures) (Refused _) (c .before .before .refuse .ensures .0 (server (l .before) .plant)) (c .before .before .refuse .ensures .1) (refl, λ f. f)
+    (search (c .before .out .given, c .slice-known2 .given, c .before .before .refuse, needs)) (Faulty _) (ap viewSaid (sym (c .before .before .before .before .before .said2 .given .1)) ∙ c .before .before .before .before .before .before .before .before .heard .ensures) (Refused _) (c .before .before .refuse .ensures .0 (server (l .before) .plant)) (c .before .before .refuse .ensures .1 .0) (refl, λ f. f)
 
 -- ── what is answered ──
 nothing-requires : tie.Need-nothing-requires Inv-loop μ-loop
@@ -184,7 +184,7 @@ plant c = server (line c .before) .plant
 
 question : (c : Answered) → Asked (c .before .before .before .before .before .before .heard .result) (plant c) (c .match2 .c) (c .match2 .a) (c .match2 .words) (c .match2 .shown)
 question c =
-    ⊎-elim (λ w. asked-read _ (plant c) _ _ _ _ _ (c .before .before .before .said .given .1) (w .7 ∙ sym (w .1 .given .1)) _ _ _ _ (back2 Read _ _ (w .1 .given .1) (search needs) (search needs)) (w .8) (w .10) (w .9) (w .4 .ensures .1 .0) (w .4 .ensures .1 .1 .0) (w .4 .ensures .1 .1 .1 .1 .0) (w .4 .ensures .1 .1 .1 .1 .1))
+    ⊎-elim (λ w. asked-read _ (plant c) _ _ _ _ _ (c .before .before .before .said .given .1) (w .7 ∙ sym (w .1 .given .1)) _ _ _ _ (back2 Read _ _ (w .1 .given .1) (search needs) (search needs)) (w .8) (w .10) (w .9) (w .4 .ensures .1 .0) (w .4 .ensures .1 .1 .0) (w .4 .ensures .1 .1 .1 .1 .0) (w .4 .ensures .1 .1 .1 .1 .1 .0))
     (⊎-elim (λ w. asked-change _ (plant c) _ _ _ _ _ (c .before .before .before .said .given .1) (w .4 ∙ sym (w .1 .given .1)) _ (w .5) (w .6) (c .before .nothing .ensures) _ (w .7) _ _ _ _ _ (back5 Change _ _ _ _ _ (w .1 .given .1) (search needs) (search needs) (search needs) (search needs) (search needs)) (w .3 .ensures .1 .0))
     (λ w. asked-plain _ (plant c) _ _ _ _ _ (c .before .before .before .said .given .1) (w .2) _ (w .3) (w .4) (c .before .nothing .ensures) _ (w .5) (not-seeing (c .before .before .before .said .given .0 .0) (w .0 .keys3)) (w .1 .ensures .0))) (c .match2 .came)
 
@@ -212,7 +212,7 @@ add-wrote-2 c =
     let q = c .before .before .before .before .before in
     let l = line q in
     let g = l .before .before .before .before .before .before .before .before .before .good .1 .1 .0 in
-    record { fits = omega (arith, room-left l (q .before .before .before .before .before .empty .result) (q .before .before .before .before .before .empty .ensures .0) (c .before .before .tell .result) (c .before .before .tell .ensures .1), fed (l .before) .long, g .0, g .1) }
+    record { fits = omega (arith, room-left l (q .before .before .before .before .before .empty .result) (q .before .before .before .before .before .empty .ensures .0) (c .before .before .tell .result) (c .before .before .tell .ensures .1 .0), fed (l .before) .long, g .0, g .1) }
 
 -- ── where the answer is printed ──
 abbrev Printed : Type 0
@@ -233,7 +233,7 @@ again c q d =
     let l = line (asked c) in
     let f = question (asked c) in
     feed-line _ _ _ _ (server (l .before)) (fed (l .before)) _ (l .before .line-end .ensures) (ready (l .before)) (l .if2 .left) q (asked c .before .before .before .before .before .empty .result) (asked c .before .before .before .before .before .empty .ensures .0) (asked c .before .before .before .before .before .empty .ensures .1) (c .before .before .tell .result) _
-    (search (c .before .out2 .given, c .slice-known3 .given, c .before .before .tell, needs)) (Says (asked c .match2 .c)) (ap viewSaid (sym (f .says)) ∙ asked c .before .before .before .before .before .before .heard .ensures) (asked c .match2 .a) (c .before .before .tell .ensures .0 (plant (asked c)) refl (f .answers) (f .fills) (counted (asked c))) (c .before .before .tell .ensures .1) d
+    (search (c .before .out2 .given, c .slice-known3 .given, c .before .before .tell, needs)) (Says (asked c .match2 .c)) (ap viewSaid (sym (f .says)) ∙ asked c .before .before .before .before .before .before .heard .ensures) (asked c .match2 .a) (c .before .before .tell .ensures .0 (plant (asked c)) refl (f .answers) (f .fills) (counted (asked c))) (c .before .before .tell .ensures .1 .0) d
 
 ends-session-requires : tie.Need-ends-session-requires Inv-loop μ-loop
 ends-session-requires c κs = search needs
