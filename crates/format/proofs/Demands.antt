@@ -19,10 +19,11 @@ use Rattle.rules.specs.Changes.{follow}
 use Rattle.rules.specs.Tables.{Plant}
 use Rattle.rules.specs.Calls.{Call, Read, Answer, refused, fine, Result, Pick}
 use Rattle.rules.specs.Conditions.{conditions}
-use Rattle.rules.specs.Step.{accepted, step, Allowed}
+use Rattle.rules.specs.Step.{accepted, sessionOf, step, Allowed}
 use Rattle.rules.specs.History.{changesOf, wholeHistory, Turn, World, turn, turns, AllAllowed, initial}
 use Rattle.rules.proofs.Laws.{byCase, not-met}
 use Rattle.rules.proofs.Steps.{step-fine, fine-none, refused-is, refusals-leave}
+use Rattle.rules.proofs.Sessionless.{no-session}
 use Rattle.rules.proofs.Words.{length-showAll}
 use Rattle.rules.proofs.Kept.{initial-kept}
 use Rattle.rules.proofs.InvariantSteps.{inv-turns, inv-initial}
@@ -184,6 +185,9 @@ module _ (ts : List Turn) (f : AllAllowed ts (initial .plant)) (pick : Pick) whe
         leaves = λ n e u v. ap (λ z. z .plant) (refusals-leave c lentWords pick p n (answers-differ .refusal (r .answer) words n e) u v);
         three = λ e. ap (λ z. z .plant) (refused-is c lentWords pick p wasDoomed (answers-differ .refusal (r .answer) words wasDoomed e));
         four = λ e. ap (λ z. z .plant) (refused-is c lentWords pick p exclusiveElsewhere (answers-differ .refusal (r .answer) words exclusiveElsewhere e));
+        names = λ d e n.
+            let spares = no-session c (ap sessionOf (said-call e) ∙ n) lentWords pick p in
+            (λ i. spares wasDoomed (answers-differ .refusal (r .answer) words wasDoomed i) .0 refl, λ i. spares exclusiveElsewhere (answers-differ .refusal (r .answer) words exclusiveElsewhere i) .1 refl);
         shows = λ s k e. subst (λ d. IsAccepted (lineFor d p (step d lentWords pick p)) → lineFor d p (step d lentWords pick p) ≡ readLine w s k) (sym (said-call e)) (read-line s k);
         commits = λ s e. subst (λ d. LeavesStore p (step d lentWords pick p .plant)) (sym (said-call e)) (commit-leaves-store s lentWords pick p);
       }
@@ -193,6 +197,7 @@ module _ (ts : List Turn) (f : AllAllowed ts (initial .plant)) (pick : Pick) whe
         leaves = λ n e u v. refl;
         three = λ e. refl;
         four = λ e. refl;
+        names = λ d e. let z : _≡_ {A = ℕ} 0 1 = cc in absurd (omega (arith, z));
         shows = λ s k e. let z : _≡_ {A = ℕ} 0 1 = cc in absurd (omega (arith, z));
         commits = λ s e. (refl, refl);
       }

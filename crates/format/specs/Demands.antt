@@ -3,14 +3,14 @@
 use Prim.Native.Nat.{ℕ}
 use mathlib.Core.Path.{_≡_}
 use mathlib.Core.Logic.{_⊎_}
-use mathlib.Core.Option.{Option, some}
+use mathlib.Core.Option.{Option, none, some}
 use mathlib.Core.List.{List, [], _∷_}
 use lib.ListN.{take}
 use lib.IntN.{ℤ}
 use Rattle.rules.specs.Refusals.{Refusal, refusalNumber, wasDoomed, exclusiveElsewhere}
 use Rattle.rules.specs.Values.{natOf}
 use Rattle.rules.specs.Tables.{Plant, setup}
-use Rattle.rules.specs.Calls.{Read, Commit, markNumber, Answer, refused, fine, Pick}
+use Rattle.rules.specs.Calls.{Call, Read, Commit, markNumber, Answer, refused, fine, Pick}
 use Rattle.rules.specs.Effects.{mark}
 use Rattle.rules.specs.Step.{sessionOf, ending, Allowed}
 use Rattle.rules.specs.History.{World, turn, initial}
@@ -53,10 +53,12 @@ LeavesStore p q = (q .store ≡ p .store) × (q .rows ≡ p .rows)
 -- w is what the lines before it left, o is printed, q is the plant left
 pub record LineMeets (x : Said) (w : World) (o : List ℕ) (q : Plant) : Type 0 where
   pub tells : IsAccepted o ⊎ ((r : Refusal) × IsRefused r o)
-  -- demand 1: a refused line leaves the plant, but for refusals 3 and 4, which end the session that met them and leave all else
+  -- demand 1: a refused line leaves the plant, but for refusals 3 and 4, which end the session that met them and leave all else; a call without a
+  -- session meets neither
   pub leaves : (r : Refusal) → IsRefused r o → (r ≡ wasDoomed → ⊥) → (r ≡ exclusiveElsewhere → ⊥) → q ≡ w .plant
   pub three : IsRefused wasDoomed o → q ≡ withoutSession x (w .plant)
   pub four : IsRefused exclusiveElsewhere o → q ≡ withoutSession x (w .plant)
+  pub names : (c : Call) → x ≡ says c → sessionOf c ≡ none → (IsRefused wasDoomed o → ⊥) × (IsRefused exclusiveElsewhere o → ⊥)
   -- demand 2
   pub shows : (s k : ℤ) → x ≡ says (Read s k) → IsAccepted o → o ≡ readLine w s k
   pub commits : (s : ℤ) → x ≡ says (Commit s) → LeavesStore (w .plant) q

@@ -1,4 +1,6 @@
 -- Calls without a session meet neither 3 nor 4.
+use Prim.Native.Nat.{ℕ}
+use native.Mathlib.Omega.{arith}
 use mathlib.Core.Path.{_∙_, _≡_, ap, refl, sym}
 use mathlib.Core.Bool.{Bool, false, not, true, true≢false}
 use mathlib.Core.Option.{Option, none, some}
@@ -12,8 +14,9 @@ use Rattle.rules.specs.Refusals.{Refusal, wasDoomed, exclusiveElsewhere,
 use Rattle.rules.specs.Values.{fits32, Field, absent, number, list}
 use Rattle.rules.specs.Changes.{Kind, set, unset, inc, add, push, pull, Update, member, putLast, change, outcomeRefusal, meets}
 use Rattle.rules.specs.Tables.{Plant}
-use Rattle.rules.specs.Calls.{Call, Load, Map, Begin, Advance, Take, Apply, Delete, Cut, Sweep, Store}
+use Rattle.rules.specs.Calls.{Call, Load, Map, Begin, Read, Change, Commit, Abandon, Advance, Take, Apply, Delete, Cut, Sweep, Store, Report}
 use Rattle.rules.specs.Conditions.{conditions}
+use Rattle.rules.specs.Step.{sessionOf}
 use Rattle.rules.specs.Claims.{Spares, SparesSessions}
 use Rattle.rules.proofs.Laws.{byCase}
 use Rattle.rules.proofs.Steps.{refused-first, refusals-leave}
@@ -83,3 +86,24 @@ spares-sessions =
       sweep = spares Sweep (λ lent p. (spared _ _ refl, tt));
       store = λ n. spares (Store n) (λ lent p. (spared _ _ refl, tt));
     }
+
+some-none : {n : ℕ} → _≡_ {A = Option ℕ} (some n) none → ⊥
+some-none e = let z : _≡_ {A = ℕ} 0 1 = cc in omega arith
+
+-- by the call's own word
+pub no-session : (c : Call) → sessionOf c ≡ none → Spares c
+no-session (Load d f k v) e = spares-sessions .load d f k v
+no-session (Map k n m) e = spares-sessions .map k n m
+no-session Begin e = spares-sessions .begin
+no-session (Read s k) e = absurd (some-none e)
+no-session (Change s d f k v) e = absurd (some-none e)
+no-session (Commit s) e = absurd (some-none e)
+no-session (Abandon s) e = absurd (some-none e)
+no-session (Advance n) e = spares-sessions .advance n
+no-session (Take w) e = spares-sessions .take w
+no-session (Apply w fate) e = spares-sessions .apply w fate
+no-session (Delete w) e = spares-sessions .delete w
+no-session (Cut w) e = spares-sessions .cut w
+no-session Sweep e = spares-sessions .sweep
+no-session (Store n) e = spares-sessions .store n
+no-session (Report s) e = absurd (some-none e)
