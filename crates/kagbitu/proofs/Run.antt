@@ -9,7 +9,7 @@ use Rattle.plant.specs.View.{viewPlant}
 use Rattle.feeding.specs.Fed.{keptServer, Fed, Finished}
 use Rattle.feeding.specs.Input.{Taken, Takes, left, input, output}
 use Rattle.feeding.specs.declared.Server.{Server}
-use Rattle.feeding.proofs.Input.{input-served, input-holds}
+use Rattle.feeding.proofs.Input.{input-served, input-meets, input-holds}
 use Rattle.kagbitu.specs.Part.{unused, First, Rest}
 use Rattle.kagbitu.specs.declared.part.Part.{Part}
 use Rattle.kagbitu.specs.Run.{Run, starts, reads, feeds, Ran, Led, RunLeads, RunServed, Started, Ended, Whole, AllServed}
@@ -63,6 +63,7 @@ run-served s st n bytes answers t r out u f =
     let w : Whole (input (l .pieces)) (output (l .pieces) ++ take (u .wrote) out) (viewPlant (u .plant)) =
     record {
       serves = input-served s (st .shows) (st .empty) (st .kept) (l .pieces) (l .takes) out u g;
+      meets = input-meets s (st .shows) (st .empty) (st .kept) (l .pieces) (l .takes) out u g;
       holds = input-holds s (st .shows) (st .empty) (st .kept) (l .pieces) (l .takes) out u g;
     } in
     subst (λ b. Whole b (answers ++ take (u .wrote) out) (viewPlant (u .plant))) eb

@@ -6,7 +6,9 @@ use mathlib.Core.Bool.{true}
 use mathlib.Core.List.{List, [], _++_}
 use lib.ListN.{length, take, drop}
 use Rattle.rules.specs.Tables.{Plant, setup}
+use Rattle.rules.specs.History.{initial}
 use Rattle.format.specs.Serving.{linesOf, Serves}
+use Rattle.format.specs.Demands.{Meets}
 use Rattle.format.specs.Demand3.{Made}
 use Rattle.plant.specs.View.{viewPlant}
 use Rattle.pending.specs.View.{viewPending}
@@ -64,9 +66,10 @@ pub record Led (s : Server) (bytes answers : List ℕ) (t : Server) (unused : Li
 abbrev pub RunLeads : Type 0
 RunLeads = (s : Server) (n : ℕ) (bytes answers : List ℕ) (t : Server) (unused : List ℕ) → Run s n bytes answers t unused → Led s bytes answers t unused
 
--- what was answered in all, with the last bytes, is the answer to the lines of all bytes read, and demand 3 holds
+-- what was answered in all, with the last bytes, is the answer to the lines of all bytes read, and demands 1 to 3 hold of them
 pub record Whole (bytes answers : List ℕ) (p : Plant) : Type 0 where
   pub serves : Serves (linesOf bytes) setup answers p
+  pub meets : Meets (linesOf bytes) initial (linesOf answers) p
   pub holds : Made (linesOf bytes) answers p
 
 abbrev pub RunServed : Type 0
