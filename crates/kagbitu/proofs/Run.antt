@@ -12,7 +12,7 @@ use Rattle.feeding.specs.declared.Server.{Server}
 use Rattle.feeding.proofs.Input.{input-served, input-meets, input-holds}
 use Rattle.kagbitu.specs.Part.{unused, First, Rest}
 use Rattle.kagbitu.specs.declared.part.Part.{Part}
-use Rattle.kagbitu.specs.Run.{Run, starts, reads, feeds, Ran, Led, RunLeads, RunServed, Started, Ended, Whole, AllServed}
+use Rattle.kagbitu.specs.Run.{Run, starts, reads, feeds, Ran, RunLeads, RunServed, Started, Ended, Whole, AllServed}
 use Rattle.kagbitu.proofs.Laws.{none-unused, first-unused, rest-unused}
 
 -- ── one piece more ──

@@ -1,7 +1,6 @@
 -- `told` meets its contract.
 use lib.Dec.{lit<}
 use mathlib.Core.Path.{refl}
-use borrow.Author.Needs.{needs}
 use Rattle.arguments.proofs.Numbers.{natural-fits}
 use Rattle.kagbitu.proofs.Laws.{told-again, told-failed, told-end, told-some, told-all}
 use Rattle.kagbitu.proofs.outcome.told.Statement.{statement}
