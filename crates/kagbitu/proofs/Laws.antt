@@ -2,7 +2,7 @@
 use Prim.Native.Nat.{ℕ, zero, suc, _+_, _-_, _≤_, _<_, _^_}
 use native.Mathlib.Nat.{min-eq-left, min-eq-right}
 use native.Mathlib.Omega.{arith}
-use mathlib.Core.Path.{_≡_, refl, sym, _∙_, ap, subst}
+use mathlib.Core.Path.{_≡_, refl, sym, _∙_, ap}
 use mathlib.Core.Bool.{Bool, true, false, cond, true≢false}
 use mathlib.Core.List.{List, [], _∷_}
 use lib.Dec.{eqb}
@@ -20,7 +20,6 @@ use Rattle.arguments.proofs.Numbers.{held}
 use Rattle.kagbitu.specs.Part.{unused, Inside, First, Rest}
 use Rattle.kagbitu.specs.declared.part.Part.{Part}
 use Rattle.kagbitu.specs.Outcome.{passing, outcomeOf, Answered}
-use Rattle.kagbitu.specs.Written.{Written, none, more}
 use Rattle.kagbitu.specs.declared.outcome.Outcome.{Outcome}
 use Rattle.kagbitu.specs.declared.outcome.Outcome.the-variants as o
 
@@ -123,20 +122,7 @@ module _ (p : Part) (l : List ℕ) (i : Inside p l) where
   pub rest-inside : (n : ℕ) (q : Part) → p .at + n ≤ p .end → Rest n p q → Inside q l
   rest-inside n q h f = (omega (arith, h, f .begins, f .ends), omega (arith, i .1, f .ends))
 
-  pub wrote-more : p .end ≡ length l → Written l (p .at) → (n : ℕ) (r : Outcome) → Answered (length (unused p l)) r → r ≡ o.Moved n → (q : Part) → Rest n p q
-      → Inside q l × ((q .end ≡ length l) × Written l (q .at))
-  wrote-more e w n r a m q f =
-      let b = subst (λ k. Answered k (o.Moved n)) (unused-length ∙ ap (λ k. k - p .at) e) (subst (Answered (length (unused p l))) m a) in
-      (rest-inside n q (moved-inside n r a m) f, (f .ends ∙ e, subst (Written l) (sym (f .begins)) (more w n b)))
-
   -- `feed` uses some of a part that is not empty, where there is room for an answer
   pub used-some : eqb (p .at) (p .end) ≡ false → (n lent : ℕ) → longest ≤ lent → (longest ≤ lent → n ≡ 0 → length (unused p l) ≡ 0) → 1 ≤ n
   used-some h zero lent r f = absurd (eqb-false (p .at) (p .end) h (omega (arith, i .0, unused-length, f r refl)))
   used-some h (suc n) lent r f = omega arith
-
--- ── what is written ──
-pub wrote-none : (p : Part) (l : List ℕ) → First (length l) p → Inside p l × ((p .end ≡ length l) × Written l (p .at))
-wrote-none p l f = ((omega (arith, f .begins), omega (arith, f .ends)), (f .ends, subst (Written l) (sym (f .begins)) none))
-
-pub wrote-all : (p : Part) (l : List ℕ) → p .end ≡ length l → Written l (p .at) → p .at ≡ p .end → Written l (length l)
-wrote-all p l e w h = subst (Written l) (h ∙ e) w

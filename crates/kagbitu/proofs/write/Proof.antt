@@ -1,17 +1,12 @@
--- `write` meets its contract: what is left to write are the last bytes, those before them are taken, and the tries fall.
+-- `write` is safe and ends: what is left to write lies within the bytes, and the tries fall.
 use borrow.Author.Needs.{needs}
-use borrow.Author.Tests.{eqb-true}
-use lib.ListN.{length}
-use mathlib.Core.Path.{_≡_, sym, _∙_}
-use mathlib.Core.Bool.{true≢false}
 use Rattle.kagbitu.specs.Part.{Inside}
-use Rattle.kagbitu.specs.Written.{Written}
-use Rattle.kagbitu.proofs.Laws.{moved-inside, wrote-none, wrote-more, wrote-all}
+use Rattle.kagbitu.proofs.Laws.{moved-inside, rest-inside}
 use Rattle.kagbitu.proofs.write.Statement.{statement}
 use Rattle.kagbitu.proofs.write.Tie as tie
 
 abbrev Inv-loop : tie.InvT-loop
-Inv-loop out rest₀ tries₀ rest tries = Inside rest out × ((rest .end ≡ length out) × Written out (rest .at))
+Inv-loop out rest₀ tries₀ rest tries = Inside rest out
 
 abbrev μ-loop : tie.MeasureT-loop
 μ-loop out rest₀ tries₀ rest tries = tries
@@ -20,17 +15,13 @@ first-requires : tie.Need-first-requires Inv-loop μ-loop
 first-requires c κs = search needs
 
 loop-holds : tie.Need-loop-holds Inv-loop μ-loop
-loop-holds c = wrote-none (c .first .result) (c .before .before .args .out .now) (c .first .ensures)
+loop-holds c = search needs
 
 is-empty-requires : tie.Need-is-empty-requires Inv-loop μ-loop
 is-empty-requires c κs = search needs
 
 returns : tie.Need-returns Inv-loop μ-loop
-returns c =
-    let l = c .before .before .before in
-    λ h.
-    wrote-all (l .loop .rest) (l .before .before .before .args .out .now) (l .loop .inv .1 .0) (l .loop .inv .1 .1)
-    (eqb-true (l .loop .rest .at) (l .loop .rest .end) (sym (c .before .is-empty .ensures) ∙ c .if1 .taken))
+returns c = search needs
 
 sub-tries : tie.Need-sub-tries Inv-loop μ-loop
 sub-tries c = search needs
@@ -51,9 +42,7 @@ enum-known-wrote : tie.Need-enum-known-wrote Inv-loop μ-loop
 enum-known-wrote c = search needs
 
 after-requires : tie.Need-after-requires Inv-loop μ-loop
-after-requires c κs =
-    let l = c .before .before .before .before .before .before .before .before in
-    moved-inside (l .loop .rest) (l .before .before .before .args .out .now) (l .loop .inv .0) _ _ (c .before .before .before .write-some .ensures) (c .before .wrote .given .1)
+after-requires c κs = moved-inside _ _ (c .before .before .before .before .before .before .before .before .loop .inv) _ _ (c .before .before .before .write-some .ensures) (c .before .wrote .given .1)
 
 loop-less : tie.Need-loop-less Inv-loop μ-loop
 loop-less c = search needs
@@ -61,8 +50,11 @@ loop-less c = search needs
 loop-again : tie.Need-loop-again Inv-loop μ-loop
 loop-again c =
     let l = c .before .before .before .before .before .before .before .before .before in
-    wrote-more (l .loop .rest) (l .before .before .before .args .out .now) (l .loop .inv .0) (l .loop .inv .1 .0) (l .loop .inv .1 .1) _ _ (c .before .before .before .before .write-some .ensures)
-    (c .before .before .wrote .given .1) (c .after .result) (c .after .ensures)
+    let r = l .loop .rest in
+    let bytes = l .before .before .before .args .out .now in
+    let n = c .before .before .wrote .given .0 .0 in
+    rest-inside r bytes (l .loop .inv) n (c .after .result)
+    (moved-inside r bytes (l .loop .inv) n (c .before .before .before .before .write-some .result) (c .before .before .before .before .write-some .ensures) (c .before .before .wrote .given .1)) (c .after .ensures)
 
 enum-told : tie.Need-enum-told Inv-loop μ-loop
 enum-told c = search needs
@@ -80,10 +72,10 @@ unwritten-requires : tie.Need-unwritten-requires Inv-loop μ-loop
 unwritten-requires c κs = search needs
 
 returns-2 : tie.Need-returns-2 Inv-loop μ-loop
-returns-2 c = λ h. absurd (true≢false (sym h))
+returns-2 c = search needs
 
 returns-3 : tie.Need-returns-3 Inv-loop μ-loop
-returns-3 c = λ h. absurd (true≢false (sym h))
+returns-3 c = search needs
 
 pub write-spec : {M : Type 1} → statement M
 write-spec =
