@@ -12,9 +12,12 @@ use Rattle.format.specs.Demands.{Meets}
 use Rattle.format.specs.Demand3.{Made}
 use Rattle.plant.specs.View.{viewPlant}
 use Rattle.pending.specs.View.{viewPending}
-use Rattle.feeding.specs.Fed.{keptServer, Fed, Finished}
+use Rattle.printing.specs.Line.{longest}
+use Rattle.feeding.specs.Fed.{keptServer, Within, Fed, Finished}
 use Rattle.feeding.specs.Input.{Taken, Takes, left, input, output}
 use Rattle.feeding.specs.declared.Server.{Server}
+use Rattle.kagbitu.specs.Part.{unused, Rest}
+use Rattle.kagbitu.specs.declared.part.Part.{Part}
 
 -- a turn reads at least one byte, where none is unused: the first bytes of the buffer as the read left it
 pub record ReadSome (buffer : List ℕ) (n : ℕ) : Type 0 where
@@ -26,6 +29,13 @@ pub record FedSome (s : Server) (unused out : List ℕ) (t : Server) : Type 0 wh
   pub fed : Fed s unused out t
   pub some : 1 ≤ t .used
   pub within : t .used ≤ length unused
+
+-- what is promised of such a turn: p is what was unused of the piece, q what is unused then
+pub record Turned (s : Server) (p : Part) (piece lent out : List ℕ) (t : Server) (q : Part) : Type 0 where
+  pub fed : keptServer s ≡ true → Fed s (unused p piece) out t
+  pub within : Within t (unused p piece) lent
+  pub some : longest ≤ length lent → t .used ≡ 0 → length (unused p piece) ≡ 0
+  pub rest : Rest (t .used) p q
 
 -- from the server s, after so many turns: the bytes read, the bytes answered, the server, and the bytes read that are unused
 pub data Run (s : Server) : ℕ → List ℕ → List ℕ → Server → List ℕ → Type 0 where

@@ -7,7 +7,8 @@ ghost use mathlib.Core.Path.{_≡_};
 ghost use lib.ListN.{length};
 ghost use Rattle.printing.specs.Line.{longest};
 ghost use Rattle.kagbitu.specs.Outcome.{Answered};
-ghost use Rattle.kagbitu.specs.Run.{Ended, AllServed};
+ghost use Rattle.kagbitu.specs.Part.{Inside};
+ghost use Rattle.kagbitu.specs.Run.{Turned, Ended, AllServed};
 use feeding::Server;
 use libc::STDIN_FILENO;
 use libc::STDOUT_FILENO;
@@ -80,6 +81,27 @@ fn finish(server: Server, read: Outcome, out: &mut [u8]) -> usize
     finished.wrote
 }
 
+// What is left of a turn that serves: the server, and what of the piece is still unused.
+struct Turn {
+    server: Server,
+    part: Part,
+}
+
+// Feeds all that is unused, no byte twice and none passed over.
+fn serve(server: Server, part: Part, piece: &[u8], out: &mut [u8]) -> Turn
+    requires { ⌜ Inside part (now piece) ⌝ }
+    ensures { λ r. ⌜ Turned server part (now (piece .entry)) (now (out .entry)) (now (out .exit)) (r .server) (r .part) ⌝ }
+{
+    let at = part.at;
+    let end = part.end;
+    let next = feeding::feed(server, &piece[at..end], out);
+    let rest = part.after(next.used);
+    Turn {
+        server: next,
+        part: rest,
+    }
+}
+
 // A turn reads once, or serves what was read as far as there is room for the answers, so that a line is answered before more input is
 // waited for. A proved loop has to end, and nothing says that input does: so the turns are counted down, and the tries that read nothing yet,
 // from a number that no run uses up.
@@ -117,10 +139,11 @@ fn main() {
             }
             continue;
         }
-        let at = part.at;
-        let end = part.end;
-        server = feeding::feed(server, &piece[at..end], &mut out);
-        part = part.after(server.used);
+        let turn = serve(server, part, &piece, &mut out);
+        let next = turn.server;
+        let rest = turn.part;
+        server = next;
+        part = rest;
         turns -= 1;
         let wrote = server.wrote;
         if !write(&out[..wrote]) {

@@ -129,25 +129,14 @@ loop-again-2 c =
       (i .1 .0, ((i .1 .1 .0 .0, omega (arith, i, r .kept)), (search needs, (search needs, omega arith)))),
     )
 
-sub-feed : tie.Need-sub-feed Inv-loop μ-loop
-sub-feed c = search needs
+slice-aggregate-serve : tie.Need-slice-aggregate-serve Inv-loop μ-loop
+slice-aggregate-serve c = search needs
 
-part-feed-start : tie.Need-part-feed-start Inv-loop μ-loop
-part-feed-start c = search needs
+slice-aggregate-serve-2 : tie.Need-slice-aggregate-serve-2 Inv-loop μ-loop
+slice-aggregate-serve-2 c = search needs
 
-part-feed-end : tie.Need-part-feed-end Inv-loop μ-loop
-part-feed-end c = search needs
-
-slice-aggregate-feed : tie.Need-slice-aggregate-feed Inv-loop μ-loop
-slice-aggregate-feed c = search needs
-
-feed-requires : tie.Need-feed-requires Inv-loop μ-loop
-feed-requires c κs = search needs
-
-after-requires : tie.Need-after-requires Inv-loop μ-loop
-after-requires c κs =
-    let l = c .before .before .before .before .before .before .before .before .loop in
-    omega (arith, l .inv .1 .1 .0, used-inside (l .part) (l .piece) (l .inv .1 .1 .0) (c .before .feed .result .used) (c .before .feed .ensures .1 .0 .0))
+serve-requires : tie.Need-serve-requires Inv-loop μ-loop
+serve-requires c κs = c .before .before .before .before .before .loop .inv .1 .1 .0
 
 sub-turns-2 : tie.Need-sub-turns-2 Inv-loop μ-loop
 sub-turns-2 c = search needs
@@ -171,15 +160,15 @@ loop-again-3 : tie.Need-loop-again-3 Inv-loop μ-loop
 loop-again-3 c =
     let l = c .before .before .before .before .before .before .before .before .before .before .before .before .loop in
     let i = l .inv in
-    let f = c .before .before .before .before .before .feed .ensures in
-    let a = c .before .before .before .after in
+    let t = c .before .before .before .before .before .before .serve in
+    let f = t .ensures in
     let o =
-    used-some (l .part) (l .piece) (i .1 .1 .0) (sym (c .before .before .before .before .before .before .before .before .before .before .is-empty .ensures) ∙ c .before .before .before .before .before .before .before .before .before .if1 .left) (c .before .before .before .before .before .feed .result .used) (length (l .out)) (omega (arith, i .1 .1 .1 .1 .0))
-    (f .1 .1 .1 .0) in (
-      ran-fed _ _ _ (l .part) (l .piece) (i .0) _ (omega (arith, c .before .before .before .before .before .before .before .before .before .before .before .loop-test .taken, i .1 .1 .1 .1 .1)) (i .1 .0 .kept) _ _ (f .0) o (f .1 .0 .0) (a .result) (a .ensures),
+    used-some (l .part) (l .piece) (i .1 .1 .0) (sym (c .before .before .before .before .before .before .before .before .before .before .is-empty .ensures) ∙ c .before .before .before .before .before .before .before .before .before .if1 .left) (t .result .server .used) (length (l .out)) (omega (arith, i .1 .1 .1 .1 .0))
+    (f .some) in (
+      ran-fed _ _ _ (l .part) (l .piece) (i .0) _ (omega (arith, c .before .before .before .before .before .before .before .before .before .before .before .loop-test .taken, i .1 .1 .1 .1 .1)) (i .1 .0 .kept) _ _ (f .fed) o (f .within .0) (t .result .part) (f .rest),
       (
         i .1 .0,
-        (rest-inside (l .part) (l .piece) (i .1 .1 .0) _ (a .result) (used-inside (l .part) (l .piece) (i .1 .1 .0) _ (f .1 .0 .0)) (a .ensures), (search needs, (search needs, omega arith))),
+        (rest-inside (l .part) (l .piece) (i .1 .1 .0) _ (t .result .part) (used-inside (l .part) (l .piece) (i .1 .1 .0) _ (f .within .0)) (f .rest), (search needs, (search needs, omega arith))),
       ),
     )
 
@@ -221,12 +210,9 @@ main-spec =
     loop-again
     loop-less-2
     loop-again-2
-    sub-feed
-    part-feed-start
-    part-feed-end
-    slice-aggregate-feed
-    feed-requires
-    after-requires
+    slice-aggregate-serve
+    slice-aggregate-serve-2
+    serve-requires
     sub-turns-2
     array-share-prefix-out-2
     slice-aggregate-write-2
