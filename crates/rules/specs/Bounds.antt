@@ -1,7 +1,7 @@
 -- Both edges of the limits: the last that is taken and the first that is not. Those of M1 to M12 stand in Edges, those of one refusal alone in Runs.
 use Prim.Native.Nat.{_<_, _≤_, suc, ℕ}
 use mathlib.Core.Path.{_≡_, refl}
-use mathlib.Core.Bool.{false, true}
+use mathlib.Core.Bool.{false, true, false≢true}
 use mathlib.Core.List.{List, [], _++_, _∷_}
 use lib.ListN.{length, replicate}
 use lib.IntN.{negsuc, pos, ℤ}
@@ -140,6 +140,8 @@ pub record Bounds : Type 0 where
       × (((step Sweep [] (sweepOf (span 2 16)) withSweepable) .plant) .rows ≡ 1 ∷ [])
   pub seventeen : Allowed (sweepOf (span 1 17)) withSweepable → ⊥
   pub seventeenth : Allowed (record { gives = 16; swept = 1 ∷ [] }) withSweepable → ⊥
+  -- no row twice, nor twice after another
+  pub twiceLater : Allowed (sweepOf (1 ∷ 2 ∷ 2 ∷ [])) withSweepable → ⊥
 
 -- by computing
 pub bounds : Bounds
@@ -166,4 +168,5 @@ bounds =
       sixteen = (record { oneOfSixteen = omega arith; removes = refl; once = refl; atMost = omega arith; atLeast = λ h. refl }, refl, refl);
       seventeen = λ a. let h : 17 ≤ 16 = a .atMost in omega arith;
       seventeenth = λ a. let h : 16 < 16 = a .oneOfSixteen in omega arith;
+      twiceLater = λ a. false≢true (a .once);
     }

@@ -18,7 +18,7 @@ use Rattle.rules.specs.Effects.{loaded, mapped, begun, cacheAfter, onlyA
 use Rattle.rules.specs.Step.{accepted, step, Allowed}
 use Rattle.rules.specs.History.{saw, wrote, Page, changesOf, Committed, History, whole, emptyHistory, withCommits, withBuffered, note, Turn, World, turns, AllAllowed, initial}
 use Rattle.rules.specs.Demand3.{Right, AllRight, FirstPart, CommitOrder, AllBuffered, Prepares, cutWorker, bringNear, wait, preparing, rounds, NoneRefused, Drained, Holds, Demand3}
-use Rattle.rules.specs.Scenario.{Line, _gets_, yes, says, no, noPick, pair, zeros, mapOne, mapTwo, read, edit, commit, report, advance, takes, apply, delete, cuts, near, origin, mapOrigin, editOrigin, setting, after, Plays, begins, slow1}
+use Rattle.rules.specs.Scenario.{Line, _gets_, yes, says, no, noPick, pair, zeros, mapOne, mapTwo, read, edit, commit, report, advance, takes, apply, delete, cuts, near, origin, mapOrigin, editOrigin, setting, after, Plays, begins, slow1, latterFirst}
 
 -- the turns of a run, with seventeen words lent and no choice
 abbrev pub turnsOf : List Line → List Turn
@@ -156,6 +156,8 @@ pub record Histories : Type 0 where
       × (map (((worldOf (loud ++ quiet)) .history) .keys) (upto 3) ≡ (origin ∷ []) ∷ (record { document = 1; field = 0 } ∷ origin ∷ []) ∷ [] ∷ [])
   -- a delete makes the session noted for its own worker buffered no longer
   pub deletes : (((worldOf slowDelete) .history) .buffered ≡ 2 ∷ []) × (numbersOf (((worldOf slowDelete) .plant) .buffer) ≡ 2 ∷ [])
+  -- and no other, of a lower number
+  pub deletesLatter : (((worldOf latterFirst) .history) .buffered ≡ 1 ∷ []) × (numbersOf (((worldOf latterFirst) .plant) .buffer) ≡ 1 ∷ [])
   -- ── what demand 3 is asked of ──
   -- the four calls once for each buffered page, and what is added before them
   pub four : rounds 3 2
@@ -237,6 +239,7 @@ histories =
       quietPages = refl;
       quietNotes = (refl, refl, refl, refl, refl);
       deletes = (refl, refl);
+      deletesLatter = (refl, refl);
       four = refl;
       added = refl;
       lastTicks = record { worker = refl; moves = refl; ticksLeft = omega arith; store = refl };

@@ -17,7 +17,7 @@ use Rattle.rules.specs.Conditions.{conditions}
 use Rattle.rules.specs.Effects.{loaded, mapped, begun, cacheAfter, onlyAt, afterRead, withExclusive, withLast, grant, changed, committed, abandoned, lapses, lapse, loses, isLost, inDocuments, stays, advanced, taken, carried, applied, deleted, cut, swept}
 use Rattle.rules.specs.Step.{accepted, step, Allowed}
 use Rattle.rules.specs.Kept.{kept}
-use Rattle.rules.specs.Scenario.{Line, _gets_, yes, says, no, lineOf, after, Plays, load, pair, zeros, mapOne, mapTwo, read, edit, commit, report, advance, takes, apply, delete, cuts, near, origin, mapOrigin, editOrigin, setting, noPick, begins, setsBy, pushes, mapKeys, readKeys, handWithRows, applied1, deleted1, slow1, overtaken}
+use Rattle.rules.specs.Scenario.{Line, _gets_, yes, says, no, lineOf, after, Plays, load, pair, zeros, mapOne, mapTwo, read, edit, commit, report, advance, takes, apply, delete, cuts, near, origin, mapOrigin, editOrigin, setting, noPick, begins, setsBy, pushes, mapKeys, readKeys, handWithRows, applied1, deleted1, slow1, latterFirst, overtaken}
 use Rattle.rules.specs.Edges.{changing}
 use native.Mathlib.Omega.{arith}
 
@@ -782,6 +782,22 @@ pub record Runs : Type 0 where
   pub lastHand : (removable (after lastHand3 setup) 1 ≡ false)
       × (removable (after (lastHand3 ++ (cuts 3 gets yes ∷ [])) setup) 1 ≡ true)
       × (removable (after (applied1 ++ (cuts 0 gets yes ∷ [])) setup) 1 ≡ false)
+  -- the oldest is the first committed, whatever its number: a delete takes it alone, tells that it is gone while a lower number is
+  -- buffered, and leaves a lease in the name of a worker of a higher number
+  pub latter : Plays setup
+      (latterFirst
+      ++ (takes 1 gets says 1
+      ∷ apply 0 arrives gets says 2
+      ∷ delete 0 gets says 0
+      ∷ takes 2 gets no 16
+      ∷ apply 1 arrives gets says 1
+      ∷ delete 1 gets says 1
+      ∷ takes 2 gets no 18
+      ∷ []))
+  -- another session in a hand or in the buffer, of a higher or a lower number, keeps no row
+  pub otherHand : (removable (after (deleted1 ++ setting 2 1 ++ (takes 0 gets says 2 ∷ [])) setup) 1 ≡ true)
+      × (removable (after latterFirst setup) 2 ≡ false)
+      × (removable (after (latterFirst ++ (cuts 0 gets yes ∷ takes 1 gets says 1 ∷ [])) setup) 2 ≡ true)
   -- a choice of rows: not one that is buffered, not one that does not stand, none twice
   pub noChoices : (Allowed (record { gives = 0; swept = 1 ∷ [] }) (after applied1 setup) → ⊥)
       × (Allowed (record { gives = 0; swept = 2 ∷ [] }) (after deleted1 setup) → ⊥)
@@ -917,6 +933,8 @@ runs =
       onlyLapsesDrop = refl;
       goneSpares = refl;
       lastHand = (refl, refl, refl);
+      latter = refl;
+      otherHand = (refl, refl, refl);
       noChoices = (λ a. false≢true (a .removes), λ a. false≢true (a .removes), λ a. false≢true (a .once));
       fullRowsLeave = refl;
       shownOnce = refl;

@@ -167,6 +167,22 @@ slow1 =
     ∷ delete 1 gets says 1
     ∷ [])
 
+-- session 2 commits before session 1; applied by worker 0, whose reply is lost and who is slow; then by worker 1
+abbrev pub latterFirst : List Line
+latterFirst =
+    begins 2 0
+    ++ (edit 1 1 0 set (pos 4) gets says 1
+    ∷ edit 2 2 0 set (pos 4) gets says 1
+    ∷ commit 2 gets says 1
+    ∷ commit 1 gets says 2
+    ∷ takes 0 gets says 2
+    ∷ apply 0 lost gets says 0
+    ∷ advance 300 gets says 300
+    ∷ takes 1 gets says 2
+    ∷ apply 1 arrives gets says 2
+    ∷ delete 1 gets says 1
+    ∷ [])
+
 -- session 1 applied by worker 1, taken by worker 0 with a live lease, and deleted by worker 1
 abbrev pub overtaken : List Line
 overtaken =
