@@ -2,6 +2,7 @@
 use Prim.Native.Nat.{_<_, _≤_}
 use mathlib.Core.Path.{_≡_, refl}
 use mathlib.Core.Bool.{false, true, false≢true, true≢false}
+use mathlib.Core.Option.{none, some}
 use mathlib.Core.List.{List, [], _++_, _∷_, map}
 use lib.ListN.{length, replicate}
 use lib.IntN.{negsuc, pos}
@@ -10,7 +11,7 @@ use Rattle.rules.specs.Limits.{documentCount, fieldCount, keyCount, plac
 use Rattle.rules.specs.Refusals.{refusalNumber, outOfRange, noSlot, wasDoomed, exclusiveElsewhere, changesFull, wrongKind, seventhMember, sumTooLarge, keyUndefined, slotsFull, numbersSpent, sessionBegun, keyDefined, badPlaces, bufferFull, queueLeased, wrongHand, nothingBuffered, rowsFull, storeAway, clockEnd, fewWords, badLine, _⇒_}
 use Rattle.rules.specs.Values.{fits32, absent, number, list, show}
 use Rattle.rules.specs.Changes.{set, unset, inc, add, push, pull, becomes, member, pullFirst, putLast, change, outcomeRefusal, fieldOf, meets, updated, fieldAfter, sets}
-use Rattle.rules.specs.Tables.{documents, Plant, setup, removable, withRows, withClock, withNext}
+use Rattle.rules.specs.Tables.{documents, leased, Plant, setup, removable, withRows, withClock, withNext}
 use Rattle.rules.specs.Reading.{showsIt}
 use Rattle.rules.specs.Calls.{arrives, lost, unreached, Load, Map, Begin, Read, Change, Commit, Abandon, Advance, Take, Apply, Delete, Cut, Sweep, Store, Report, callNumber, fine, Pick}
 use Rattle.rules.specs.Conditions.{conditions}
@@ -651,6 +652,9 @@ pub record Runs : Type 0 where
       ∷ delete 0 gets says 1
       ∷ takes 2 gets no 16
       ∷ []))
+  -- a cut leaves its own lease in nobody's name and another's as it is, though no answer tells the name
+  pub nameless : ((after (setting 1 1 ++ (takes 0 gets says 1 ∷ cuts 0 gets yes ∷ [])) setup) .queue ≡ leased none 0)
+      × ((after (setting 1 1 ++ (takes 0 gets says 1 ∷ cuts 1 gets yes ∷ [])) setup) .queue ≡ leased (some 0) 0)
   -- a list of six shows them all
   pub sixShown : show (list (pos 1 ∷ pos 2 ∷ pos 3 ∷ pos 4 ∷ pos 5 ∷ pos 6 ∷ [])) ≡ pos 2 ∷ pos 6 ∷ pos 1 ∷ pos 2 ∷ pos 3 ∷ pos 4 ∷ pos 5 ∷ pos 6 ∷ []
   -- every cached key makes its places known
@@ -675,6 +679,7 @@ pub record Runs : Type 0 where
       × (change add (pos 0) (list (negsuc 0 ∷ [])) ≡ becomes (list (negsuc 0 ∷ pos 0 ∷ [])))
       × (change add (negsuc 1) (list (pos 1 ∷ negsuc 1 ∷ [])) ≡ becomes (list (pos 1 ∷ negsuc 1 ∷ [])))
       × (change pull (negsuc 1) (list (pos 1 ∷ negsuc 0 ∷ negsuc 1 ∷ [])) ≡ becomes (list (pos 1 ∷ negsuc 0 ∷ [])))
+      × (change pull (negsuc 0) (list (negsuc 1 ∷ negsuc 0 ∷ [])) ≡ becomes (list (negsuc 1 ∷ [])))
   pub replaced : (change set (pos 5) (list (pos 4 ∷ [])) ≡ becomes (number (pos 5)))
       × (change unset (pos 0) (list (pos 4 ∷ [])) ≡ becomes absent)
       × (change push (pos 5) absent ≡ becomes (list (pos 5 ∷ [])))
@@ -919,11 +924,12 @@ runs =
       fullCache = refl;
       repliedHand = refl;
       nobodysStays = refl;
+      nameless = (refl, refl);
       sixShown = refl;
       everyCached = refl;
       mustSweep = λ a. absurd (true≢false (a .atLeast refl));
       fates = refl;
-      signs = (refl, refl, refl, refl);
+      signs = (refl, refl, refl, refl, refl);
       replaced = (refl, refl, refl, refl);
       knownByAny = refl;
       knownLost = refl;
