@@ -701,6 +701,20 @@ pub record Runs : Type 0 where
       ∷ edit 2 2 0 inc (pos 1) gets says 3
       ∷ edit 2 3 0 inc (pos 1) gets no 20
       ∷ [])
+  -- an inc, own or buffered, made while the store was near makes no field known; it stays and is committed
+  pub incUnknown : Plays setup
+      (mapOrigin gets yes
+      ∷ begins 2 0
+      ++ (editOrigin 1 inc (pos 1) gets says 1
+      ∷ edit 2 1 0 inc (pos 1) gets says 1
+      ∷ commit 2 gets says 1
+      ∷ near false gets yes
+      ∷ editOrigin 1 inc (pos 1) gets no 20
+      ∷ read 1 0 gets no 20
+      ∷ commit 1 gets says 2
+      ∷ Begin gets says 3
+      ∷ edit 3 1 0 inc (pos 1) gets no 20
+      ∷ []))
   -- what is known can be lost: with a delete, or with a dropped key
   pub knownLost : Plays setup
       (mapOne 0 (pair 1 0) gets yes
@@ -932,6 +946,7 @@ runs =
       signs = (refl, refl, refl, refl, refl);
       replaced = (refl, refl, refl, refl);
       knownByAny = refl;
+      incUnknown = refl;
       knownLost = refl;
       exclusiveAnywhere = refl;
       ends = refl;
