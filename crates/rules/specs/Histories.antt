@@ -16,7 +16,7 @@ use Rattle.rules.specs.Calls.{arrives, Call, Load, Map, Begin, Change, C
 use Rattle.rules.specs.Conditions.{conditions}
 use Rattle.rules.specs.Effects.{loaded, mapped, begun, cacheAfter, onlyAt, afterRead, withExclusive, withLast, grant, changed, committed, abandoned, lapses, lapse, loses, isLost, inDocuments, stays, advanced, taken, carried, applied, deleted, cut, swept}
 use Rattle.rules.specs.Step.{accepted, step, Allowed}
-use Rattle.rules.specs.History.{saw, wrote, Page, changesOf, Committed, History, whole, emptyHistory, withCommits, withBuffered, note, Turn, World, turns, AllAllowed, initial}
+use Rattle.rules.specs.History.{saw, wrote, Page, changesOf, Committed, History, whole, emptyHistory, withCommits, withBuffered, note, Turn, World, turns, AllAllowed, initial, numbersBegun}
 use Rattle.rules.specs.Demand3.{Right, AllRight, FirstPart, CommitOrder, AllBuffered, Prepares, cutWorker, bringNear, wait, preparing, rounds, NoneRefused, Drained, Holds, Demand3}
 use Rattle.rules.specs.Scenario.{Line, _gets_, yes, says, no, noPick, pair, zeros, mapOne, mapTwo, read, edit, commit, report, advance, takes, apply, delete, cuts, near, origin, mapOrigin, editOrigin, setting, after, Plays, begins, slow1, latterFirst}
 
@@ -154,6 +154,8 @@ pub record Histories : Type 0 where
       × (map (((worldOf (loud ++ quiet)) .history) .noted) (upto 4) ≡ 0 ∷ 0 ∷ 0 ∷ 1 ∷ [])
       × (map (((worldOf (loud ++ quiet)) .history) .page) (upto 6) ≡ [] ∷ page1 ∷ [] ∷ page3 ∷ page4 ∷ [] ∷ [])
       × (map (((worldOf (loud ++ quiet)) .history) .keys) (upto 3) ≡ (origin ∷ []) ∷ (record { document = 1; field = 0 } ∷ origin ∷ []) ∷ [] ∷ [])
+  -- the numbers that begins answered, and no other call's
+  pub numbers : numbersBegun (turnsOf (setting 1 1 ++ setting 2 2)) setup ≡ 1 ∷ 2 ∷ []
   -- a delete makes the session noted for its own worker buffered no longer
   pub deletes : (((worldOf slowDelete) .history) .buffered ≡ 2 ∷ []) × (numbersOf (((worldOf slowDelete) .plant) .buffer) ≡ 2 ∷ [])
   -- and no other, of a lower number
@@ -238,6 +240,7 @@ histories =
       startAndNotes = (refl, refl, refl, refl, refl);
       quietPages = refl;
       quietNotes = (refl, refl, refl, refl, refl);
+      numbers = refl;
       deletes = (refl, refl);
       deletesLatter = (refl, refl);
       four = refl;
