@@ -4,7 +4,6 @@ use mathlib.Core.Bool.{true, true≢false}
 use mathlib.Core.List.{List, [], _++_, _∷_, map}
 use lib.ListN.{length}
 use Rattle.rules.specs.Lists.{all, isEmpty}
-use Rattle.rules.specs.Tables as M
 use Rattle.rules.specs.Calls.{Call}
 use Rattle.rules.specs.History.{History, Turn, World, turn, turns, AllAllowed, initial, emptyHistory, noteAnswer, wholeHistory}
 use Rattle.rules.specs.Demand3 as R

@@ -1,5 +1,5 @@
 -- However an input is cut into pieces, its answers are those of its lines, demands 1 and 2 hold of each, and demand 3 after it.
-use mathlib.Core.Path.{_≡_, refl, sym, subst}
+use mathlib.Core.Path.{_≡_, subst}
 use mathlib.Core.Bool.{true}
 use mathlib.Core.List.{List, [], _++_, _∷_}
 use lib.ListN.{take}

@@ -46,7 +46,7 @@ fn unwritten() {
     os::fail(b"kagbitu: standard output");
 }
 
-// Writes all, or says why not. A write that takes some of the bytes is followed by one of the rest.
+// Writes all, or says why not. A write that takes some of the bytes is followed by one of the rest, and one that takes nothing has failed.
 fn write(out: &[u8]) -> bool {
     let mut rest = Part::first(out.len());
     let mut tries = u64::MAX;

@@ -1,10 +1,10 @@
 -- Both edges of the limits: the last that is taken and the first that is not. Those of M1 to M12 stand in Edges, those of one refusal alone in Runs.
-use Prim.Native.Nat.{_<_, _≤_, suc, ℕ}
+use Prim.Native.Nat.{_<_, _≤_, ℕ}
 use mathlib.Core.Path.{_≡_, refl}
 use mathlib.Core.Bool.{false, true, false≢true}
 use mathlib.Core.List.{List, [], _++_, _∷_}
-use lib.ListN.{length, replicate}
-use lib.IntN.{negsuc, pos, ℤ}
+use lib.ListN.{replicate}
+use lib.IntN.{negsuc, pos}
 use Rattle.rules.specs.Lists.{pushed, span}
 use Rattle.rules.specs.Limits.{lowest, highest}
 use Rattle.rules.specs.Refusals.{seventhMember, sumTooLarge, _⇒_}
@@ -12,12 +12,12 @@ use Rattle.rules.specs.Values.{fits32, inRange, absent, number, list, fi
 use Rattle.rules.specs.Changes.{set, unset, inc, add, push, becomes, fails, member, pullFirst, putLast, change, outcomeRefusal, fieldOf, meets, updated, fieldAfter, sets, updateOf}
 use Rattle.rules.specs.Tables.{documents, Plant, setup, withCache, withSlots, withBuffer, withRows, withClock, withNext}
 use Rattle.rules.specs.Reading.{showsIt}
-use Rattle.rules.specs.Calls.{arrives, lost, unreached, Map, Begin, Change, Apply, Sweep, Pick, fine}
+use Rattle.rules.specs.Calls.{arrives, unreached, Map, Begin, Change, Apply, Sweep, Pick, fine}
 use Rattle.rules.specs.Conditions.{conditions}
 use Rattle.rules.specs.Effects.{loaded, mapped, opened, begun, cacheAfter, onlyAt, afterRead, withExclusive, withLast, grant, changed, committed, abandoned, lapses, lapse, loses, isLost, inDocuments, stays, advanced, taken, carried, applied, deleted, cut, swept}
 use Rattle.rules.specs.Step.{accepted, step, Allowed}
 use Rattle.rules.specs.Kept.{kept}
-use Rattle.rules.specs.Scenario.{Line, _gets_, yes, says, no, lineOf, noPick, after, Plays, load, pair, zeros, mapOne, read, edit, commit, advance, takes, apply, delete, cuts, editOrigin, setting, origin, begins, mapKeys, readKeys, handWithRows}
+use Rattle.rules.specs.Scenario.{Line, _gets_, yes, says, no, lineOf, noPick, after, Plays, pair, zeros, mapOne, read, edit, advance, takes, apply, delete, cuts, setting, origin, begins, mapKeys, readKeys, handWithRows}
 use Rattle.rules.specs.Edges.{changing, sixMembers}
 use native.Mathlib.Omega.{arith}
 

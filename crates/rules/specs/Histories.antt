@@ -1,5 +1,5 @@
 -- The history and demand 3 tried on worked cases: what a list of calls writes, what the drain is asked of, and wrong worlds that demand 3 tells from right ones.
-use Prim.Native.Nat.{_<_, ℕ}
+use Prim.Native.Nat.{ℕ}
 use native.Mathlib.Omega.{arith}
 use mathlib.Core.Path.{_∙_, _≡_, ap, refl, subst, sym}
 use mathlib.Core.Bool.{false, true, false≢true, true≢false}
@@ -12,13 +12,13 @@ use Rattle.rules.specs.Values.{fits32, absent, number, Stock}
 use Rattle.rules.specs.Changes.{set, inc, push, Update, follow, member, pullFirst, putLast, change, outcomeRefusal, fieldOf, meets, updated, fieldAfter, sets}
 use Rattle.rules.specs.Tables.{documents, numbersOf, Plant, setup, removable, withBuffer, withClock, withStore}
 use Rattle.rules.specs.Reading.{showsIt}
-use Rattle.rules.specs.Calls.{arrives, Call, Load, Map, Begin, Change, Commit, Abandon, Advance, Take, Apply, Delete, Cut, Sweep, Store}
+use Rattle.rules.specs.Calls.{arrives, Load, Begin, Change, Abandon, Advance, Take, Apply, Delete, Cut, Sweep, Store}
 use Rattle.rules.specs.Conditions.{conditions}
 use Rattle.rules.specs.Effects.{loaded, mapped, begun, cacheAfter, onlyAt, afterRead, withExclusive, withLast, grant, changed, committed, abandoned, lapses, lapse, loses, isLost, inDocuments, stays, advanced, taken, carried, applied, deleted, cut, swept}
 use Rattle.rules.specs.Step.{accepted, step, Allowed}
-use Rattle.rules.specs.History.{saw, wrote, Page, changesOf, Committed, History, whole, emptyHistory, withCommits, withBuffered, note, Turn, World, turns, AllAllowed, initial, numbersBegun}
+use Rattle.rules.specs.History.{saw, wrote, Page, changesOf, Committed, History, whole, emptyHistory, withCommits, withBuffered, note, Turn, World, turns, initial, numbersBegun}
 use Rattle.rules.specs.Demand3.{Right, AllRight, FirstPart, CommitOrder, AllBuffered, Prepares, cutWorker, bringNear, wait, preparing, rounds, NoneRefused, Drained, Holds, Demand3}
-use Rattle.rules.specs.Scenario.{Line, _gets_, yes, says, no, noPick, pair, zeros, mapOne, mapTwo, read, edit, commit, report, advance, takes, apply, delete, cuts, near, origin, mapOrigin, editOrigin, setting, after, Plays, begins, slow1, latterFirst}
+use Rattle.rules.specs.Scenario.{Line, _gets_, yes, says, no, noPick, pair, zeros, mapTwo, read, edit, commit, report, advance, takes, apply, delete, cuts, near, origin, mapOrigin, editOrigin, setting, after, Plays, begins, slow1, latterFirst}
 
 -- the turns of a run, with seventeen words lent and no choice
 abbrev pub turnsOf : List Line → List Turn

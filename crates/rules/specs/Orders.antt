@@ -95,7 +95,8 @@ pub record Orders : Type 0 where
       × (wordless (read 2 0) (mapOrigin gets yes ∷ begins 2 0 ++ (editOrigin 1 set (pos 4) gets says 1 ∷ [])) ≡ no 22)
       × (wordless (read 1 0) (mapOrigin gets yes ∷ Begin gets says 1 ∷ near false gets yes ∷ []) ≡ no 22)
       × (wordless (read 1 1) (mapOrigin gets yes ∷ Begin gets says 1 ∷ []) ≡ no 9)
-  -- change 1, 2, 3, 5, 4, 20, 6, 7, 8: 3 and 5 never hold at once, as a doomed session has lost its changes
+  -- change 1, 2, 3, 5, 4, 20, 6, 7, 8: 3 and 5 never hold at once, as a doomed session has lost its changes; nor do 2 and 3, or two of
+  -- 6, 7 and 8, as above
   pub ofChange : Plays setup
       (load 0 0 set (pos 7) gets yes
       ∷ load 1 0 set (pos 7) gets yes
@@ -131,7 +132,7 @@ pub record Orders : Type 0 where
       ∷ editOrigin 2 inc (pos 7) gets no 3
       ∷ editOrigin 2 inc (pos 7) gets no 2
       ∷ []))
-  -- commit 2, 3, 15: neither 2 nor 3 holds at once with 15, as there is no session with changes; the buffer is full all the same
+  -- commit 2, 3, 15: neither 2 nor 3 holds at once with 15, as there is no session with changes, nor do the two; the buffer is full all the same
   pub ofCommit : Plays setup
       (changing 32 0
       ++ (Begin gets says 33

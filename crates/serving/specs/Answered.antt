@@ -47,7 +47,7 @@ pub record Line (a : Answer) (lent out : List ℕ) (len : ℕ) : Type 0 where
   pub prints : out ≡ ended (L.answerLine (viewAnswer a) words) ++ drop len lent
   pub counts : len ≡ length (ended (L.answerLine (viewAnswer a) words))
 
--- and where that answer is a refusal the plant left is as it was
+-- and where that answer is a refusal the plant left is as it was, by 3 or 4 all tables but the sessions
 pub record LineLeaves (p : Plant) (lent out : List ℕ) (len : ℕ) (q : Plant) : Type 0 where
   pub answer : Answer
   pub line : Line answer lent out len
