@@ -1,4 +1,7 @@
 // A caller's numbers, any integers, read as what the tables number.
+pub mod change;
+pub mod places;
+
 ghost use mathlib.Core.Path.{_≡_};
 ghost use Rattle.arguments.specs.Numbers.{indexNumber, sessionNumber};
 

@@ -17,9 +17,9 @@ use Rattle.lists.specs.Find.{fold}
 use Rattle.lists.specs.Table.{counted}
 use Rattle.lists.proofs.Views.{counted-next, counted-length, Seeking, seek-start, seek-hit, seek-next, Working, work-start}
 use Rattle.lists.proofs.Forms.{form-empty, used-at}
-use Rattle.batch.specs.View.{viewBatch, carry}
-use Rattle.batch.specs.Form.{batchForm, isUnused}
-use Rattle.batch.specs.declared.Batch.{Batch}
+use Rattle.buffer.specs.batch.View.{viewBatch, carry}
+use Rattle.buffer.specs.batch.Form.{batchForm, isUnused}
+use Rattle.buffer.specs.declared.batch.Batch.{Batch}
 use Rattle.buffer.specs.View.{viewBuffer}
 use Rattle.buffer.specs.Form.{bufferForm}
 use Rattle.buffer.specs.declared.Buffer.{Buffer}

@@ -3,10 +3,10 @@ use mathlib.Core.Path.{_≡_}
 use mathlib.Core.Bool.{true}
 use mathlib.Core.List.{[]}
 use Rattle.lists.proofs.Forms.{table-unique}
-use Rattle.batch.specs.View.{viewBatch}
-use Rattle.batch.specs.Form.{batchForm, isUnused}
-use Rattle.batch.specs.declared.Batch.{Batch}
-use Rattle.batch.proofs.Unique.{batch-unique, unused-unique}
+use Rattle.buffer.specs.batch.View.{viewBatch}
+use Rattle.buffer.specs.batch.Form.{batchForm, isUnused}
+use Rattle.buffer.specs.declared.batch.Batch.{Batch}
+use Rattle.buffer.proofs.batch.Unique.{batch-unique, unused-unique}
 use Rattle.buffer.specs.View.{viewBuffer}
 use Rattle.buffer.specs.Form.{bufferForm}
 use Rattle.buffer.specs.declared.Buffer.{Buffer}

@@ -2,7 +2,7 @@
 use mathlib.Core.Bool.{Bool}
 use Rattle.rules.specs.Limits.{bufferLimit}
 use Rattle.lists.specs.Table.{tableForm}
-use Rattle.batch.specs.Form.{batchForm, isUnused}
+use Rattle.buffer.specs.batch.Form.{batchForm, isUnused}
 use Rattle.buffer.specs.declared.Buffer.{Buffer}
 
 unfoldable pub bufferForm : Buffer → Bool

@@ -1,3 +1,4 @@
 -- The buffer as the rules see it.
 pub mod View
 pub mod Form
+pub mod batch

@@ -2,7 +2,7 @@
 use mathlib.Core.List.{List}
 use Rattle.rules.specs.Tables as M
 use Rattle.lists.specs.Table.{counted}
-use Rattle.batch.specs.View.{viewBatch}
+use Rattle.buffer.specs.batch.View.{viewBatch}
 use Rattle.buffer.specs.declared.Buffer.{Buffer}
 
 unfoldable pub viewBuffer : Buffer → List M.Batch

@@ -1,4 +1,6 @@
 // The buffer: committed sessions that wait for a worker, oldest first.
+pub mod batch;
+
 ghost use Prim.Native.Nat.{min};
 ghost use mathlib.Core.Path.{_≡_};
 ghost use mathlib.Core.Bool.{true};
@@ -13,8 +15,8 @@ ghost use Rattle.field.specs.View.{viewField, fieldForm};
 ghost use Rattle.changes.specs.View.{viewChanges};
 ghost use Rattle.changes.specs.Form.{changesForm};
 ghost use Rattle.rows.specs.View.{viewRows};
-ghost use Rattle.batch.specs.View.{viewBatch};
-ghost use Rattle.batch.specs.Form.{batchForm};
+ghost use Rattle.buffer.specs.batch.View.{viewBatch};
+ghost use Rattle.buffer.specs.batch.Form.{batchForm};
 ghost use Rattle.buffer.specs.View.{viewBuffer};
 ghost use Rattle.buffer.specs.Form.{bufferForm};
 use batch::Batch;

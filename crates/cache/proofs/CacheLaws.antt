@@ -25,10 +25,10 @@ use Rattle.lists.proofs.Loops.{Removing, remove-start, remove-end, length-dropA
 use Rattle.lists.proofs.Views.{counted-length, take-map, Remaking, remake-start}
 use Rattle.lists.proofs.Forms.{form-parts, parts-form, form-empty, used-at}
 use Rattle.lists.proofs.Remake.{form-set}
-use Rattle.cached.specs.View.{noCached, viewCached, afterChanges}
-use Rattle.cached.specs.Form.{cachedForm, isBlankCached}
-use Rattle.cached.specs.declared.Cached.{Cached}
-use Rattle.cached.proofs.CachedLaws.{blank-cached}
+use Rattle.cache.specs.cached.View.{noCached, viewCached, afterChanges}
+use Rattle.cache.specs.cached.Form.{cachedForm, isBlankCached}
+use Rattle.cache.specs.declared.cached.Cached.{Cached}
+use Rattle.cache.proofs.cached.CachedLaws.{blank-cached}
 use Rattle.cache.specs.View.{viewCache}
 use Rattle.cache.specs.Form.{cacheForm}
 use Rattle.cache.specs.declared.Cache.{Cache}

@@ -15,7 +15,7 @@ use Rattle.rules.proofs.Tests.{all-head, all-tail, same-list-is}
 use Rattle.rules.proofs.KeptTest.{field-is}
 use Rattle.keys.specs.View.{noPlace}
 use Rattle.lists.specs.Find.{mapFrom}
-use Rattle.cached.specs.View.{afterChanges}
+use Rattle.cache.specs.cached.View.{afterChanges}
 
 -- a map by places that starts one further on
 mapFrom-later : {A B : Type 0} (g : ℕ → A → B) (i : ℕ) (l : List A) → mapFrom g (suc i) l ≡ mapFrom (λ j. g (suc j)) i l

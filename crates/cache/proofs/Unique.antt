@@ -3,10 +3,10 @@ use mathlib.Core.Path.{_≡_}
 use mathlib.Core.Bool.{true}
 use mathlib.Core.List.{[]}
 use Rattle.lists.proofs.Forms.{table-unique}
-use Rattle.cached.specs.View.{viewCached}
-use Rattle.cached.specs.Form.{cachedForm, isBlankCached}
-use Rattle.cached.specs.declared.Cached.{Cached}
-use Rattle.cached.proofs.Unique.{cached-unique, blank-entries}
+use Rattle.cache.specs.cached.View.{viewCached}
+use Rattle.cache.specs.cached.Form.{cachedForm, isBlankCached}
+use Rattle.cache.specs.declared.cached.Cached.{Cached}
+use Rattle.cache.proofs.cached.Unique.{cached-unique, blank-entries}
 use Rattle.cache.specs.View.{viewCache}
 use Rattle.cache.specs.Form.{cacheForm}
 use Rattle.cache.specs.declared.Cache.{Cache}

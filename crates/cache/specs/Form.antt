@@ -2,7 +2,7 @@
 use mathlib.Core.Bool.{Bool}
 use Rattle.rules.specs.Limits.{cacheLimit}
 use Rattle.lists.specs.Table.{tableForm}
-use Rattle.cached.specs.Form.{cachedForm, isBlankCached}
+use Rattle.cache.specs.cached.Form.{cachedForm, isBlankCached}
 use Rattle.cache.specs.declared.Cache.{Cache}
 
 unfoldable pub cacheForm : Cache → Bool

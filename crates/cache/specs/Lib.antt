@@ -1,3 +1,4 @@
 -- The cached keys as the rules see them.
 pub mod View
 pub mod Form
+pub mod cached

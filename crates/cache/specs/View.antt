@@ -2,7 +2,7 @@
 use mathlib.Core.List.{List}
 use Rattle.rules.specs.Tables as M
 use Rattle.lists.specs.Table.{counted}
-use Rattle.cached.specs.View.{viewCached}
+use Rattle.cache.specs.cached.View.{viewCached}
 use Rattle.cache.specs.declared.Cache.{Cache}
 
 unfoldable pub viewCache : Cache → List M.Cached

@@ -1,4 +1,6 @@
 // The cached keys, each with the fields that its places showed.
+pub mod cached;
+
 ghost use mathlib.Core.Path.{_≡_};
 ghost use mathlib.Core.Bool.{true};
 ghost use mathlib.Core.List.{[], map};
@@ -12,8 +14,8 @@ ghost use Rattle.docset.specs.Sets.{docs};
 ghost use Rattle.keys.specs.View.{viewPlace, viewKeys};
 ghost use Rattle.field.specs.View.{viewField, fieldForm};
 ghost use Rattle.changes.specs.View.{viewChanges};
-ghost use Rattle.cached.specs.View.{viewCached, afterChanges};
-ghost use Rattle.cached.specs.Form.{cachedForm};
+ghost use Rattle.cache.specs.cached.View.{viewCached, afterChanges};
+ghost use Rattle.cache.specs.cached.Form.{cachedForm};
 ghost use Rattle.cache.specs.View.{viewCache};
 ghost use Rattle.cache.specs.Form.{cacheForm};
 use cached::Cached;

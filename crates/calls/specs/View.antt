@@ -1,6 +1,6 @@
 -- Calls as the rules see them.
 use Rattle.rules.specs.Calls as C
-use Rattle.places.specs.View.{pairs}
+use Rattle.arguments.specs.places.View.{pairs}
 use Rattle.calls.specs.declared.Call.{Call}
 use Rattle.calls.specs.declared.Call.the-variants.{Load, Map, Begin, Read, Change, Commit, Abandon, Advance, Take, Apply, Delete, Cut, Sweep, Store, Report}
 

@@ -5,7 +5,7 @@ ghost use Rattle.plant.specs.View.{plantForm, keptPlant};
 ghost use Rattle.answers.specs.View.{viewAnswer, isRefused};
 ghost use Rattle.answers.specs.Own.{isAnswerOf};
 ghost use Rattle.calls.specs.View.{viewCall};
-ghost use Rattle.leaving.specs.Refused.{RefusalLeaves};
+ghost use Rattle.entry_after.specs.Refused.{RefusalLeaves};
 ghost use Rattle.entry.specs.Ran.{Ran};
 use answers::Answer;
 use calls::Call;
@@ -23,7 +23,7 @@ pub fn run(p: Plant, c: Call, words: &mut [i32]) -> Outcome
     ensures refused { λ r. ⌜ RefusalLeaves p (r .answer) (r .plant) ⌝ }
     ensures memory { λ r. ⌜ (isRefused (viewAnswer (r .answer)) ≡ true → now (words .exit) ≡ now (words .entry)) ⌝ }
 {
-    let answer = dispatch::answer(p, c, words);
-    let plant = leaving::after(p, c, answer);
+    let answer = entry_answer::answer(p, c, words);
+    let plant = entry_after::after(p, c, answer);
     Outcome { answer, plant }
 }

@@ -11,12 +11,12 @@ use lib.Seq.{drop-cons, take-add, take-all, take-length, take-take}
 use borrow.Author.Tests.{eqb-true, eq-eqb, ne-eqb}
 use Rattle.rules.proofs.Laws.{byCase}
 use Rattle.rules.specs.Tables.{setup}
-use Rattle.format.specs.Feeding.{Feeds}
-use Rattle.format.proofs.Feeding.{feeds-append, feeds-whole}
+use Rattle.line_format.specs.Feeding.{Feeds}
+use Rattle.line_format.proofs.Feeding.{feeds-append, feeds-whole}
 use Rattle.plant.specs.View.{viewPlant}
-use Rattle.pending.specs.View.{viewPending}
-use Rattle.feeding.specs.Fed.{keptServer, Fed, Finished}
-use Rattle.feeding.specs.declared.Server.{Server}
+use Rattle.line_pending.specs.View.{viewPending}
+use Rattle.line_server.specs.Fed.{keptServer, Fed, Finished}
+use Rattle.line_server.specs.declared.Server.{Server}
 use Rattle.examples.specs.Comparison.{common, Exactly, Tells, Compared}
 use Rattle.examples.specs.declared.Match.{Match}
 

@@ -6,7 +6,7 @@ use mathlib.Core.List.{List, [], _∷_}
 use lib.ListN.{length, take}
 use lib.Dec.{eqb}
 use Rattle.rules.specs.Tables.{Plant, setup}
-use Rattle.format.specs.Serving.{linesOf, Serves}
+use Rattle.line_format.specs.Serving.{linesOf, Serves}
 use Rattle.examples.specs.declared.Match.{Match}
 
 -- how many first bytes of two lists are the same

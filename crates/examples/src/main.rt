@@ -4,8 +4,8 @@ ghost use Prim.Native.Nat.{ℕ, _≤_, _<_};
 ghost use mathlib.Core.Path.{_≡_};
 ghost use mathlib.Core.List.{List, [], _++_};
 ghost use Rattle.examples.specs.Comparison.{Exactly, Tells, Compared};
-use feeding::Server;
 use libc::STDOUT_FILENO;
+use line_server::Server;
 
 // How many of the bytes that have come are the first of the answers, and whether all are.
 struct Match {
@@ -73,12 +73,12 @@ fn serve(lines: &[u8], size: usize, answers: &[u8]) -> Match
     let mut at: usize = 0;
     while at < lines.len() {
         let end = end_of_piece(at, size, lines.len());
-        server = feeding::feed(server, &lines[at..end], &mut out);
+        server = line_server::feed(server, &lines[at..end], &mut out);
         at += server.used;
         let wrote = server.wrote;
         matched = matched.add(answers, &out[..wrote]);
     }
-    server = feeding::finish(server, &mut out);
+    server = line_server::finish(server, &mut out);
     let wrote = server.wrote;
     matched.add(answers, &out[..wrote])
 }

@@ -15,7 +15,7 @@ use mir.Val.{SFits, ofZ}
 use mir.Facts.{toZ-ofZ}
 use borrow.Author.Tests.{ne-eqb, eqb-false, ltb-true}
 use Rattle.libc.specs.Io.{Moved}
-use Rattle.printing.specs.Line.{longest}
+use Rattle.line_print.specs.Line.{longest}
 use Rattle.arguments.proofs.Numbers.{held}
 use Rattle.kagbitu.specs.Part.{unused, Inside, First, Rest}
 use Rattle.kagbitu.specs.declared.part.Part.{Part}

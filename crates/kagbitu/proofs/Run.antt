@@ -6,10 +6,10 @@ use Prim.Native.Nat.{ℕ, suc, _+_, _≤_}
 use native.Mathlib.Numerals.{add-one}
 use lib.ListN.{length, take, drop, take-append-drop}
 use Rattle.plant.specs.View.{viewPlant}
-use Rattle.feeding.specs.Fed.{keptServer, Fed, Finished}
-use Rattle.feeding.specs.Input.{Taken, Takes, left, input, output}
-use Rattle.feeding.specs.declared.Server.{Server}
-use Rattle.feeding.proofs.Input.{input-served, input-meets, input-holds}
+use Rattle.line_server.specs.Fed.{keptServer, Fed, Finished}
+use Rattle.line_server.specs.Input.{Taken, Takes, left, input, output}
+use Rattle.line_server.specs.declared.Server.{Server}
+use Rattle.line_server.proofs.Input.{input-served, input-meets, input-holds}
 use Rattle.kagbitu.specs.Part.{unused, First, Rest}
 use Rattle.kagbitu.specs.declared.part.Part.{Part}
 use Rattle.kagbitu.specs.Run.{Run, starts, reads, feeds, Ran, RunLeads, RunServed, Started, Ended, Whole, AllServed}

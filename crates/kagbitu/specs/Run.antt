@@ -7,15 +7,15 @@ use mathlib.Core.List.{List, [], _++_}
 use lib.ListN.{length, take, drop}
 use Rattle.rules.specs.Tables.{Plant, setup}
 use Rattle.rules.specs.History.{initial}
-use Rattle.format.specs.Serving.{linesOf, Serves}
-use Rattle.format.specs.Demands.{Meets}
-use Rattle.format.specs.Demand3.{Made}
+use Rattle.line_format.specs.Serving.{linesOf, Serves}
+use Rattle.line_format.specs.Demands.{Meets}
+use Rattle.line_format.specs.Demand3.{Made}
 use Rattle.plant.specs.View.{viewPlant}
-use Rattle.pending.specs.View.{viewPending}
-use Rattle.printing.specs.Line.{longest}
-use Rattle.feeding.specs.Fed.{keptServer, Within, Fed, Finished}
-use Rattle.feeding.specs.Input.{Taken, Takes, left, input, output}
-use Rattle.feeding.specs.declared.Server.{Server}
+use Rattle.line_pending.specs.View.{viewPending}
+use Rattle.line_print.specs.Line.{longest}
+use Rattle.line_server.specs.Fed.{keptServer, Within, Fed, Finished}
+use Rattle.line_server.specs.Input.{Taken, Takes, left, input, output}
+use Rattle.line_server.specs.declared.Server.{Server}
 use Rattle.kagbitu.specs.Part.{unused, Rest}
 use Rattle.kagbitu.specs.declared.part.Part.{Part}
 

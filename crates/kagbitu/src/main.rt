@@ -5,13 +5,13 @@ mod part;
 ghost use Prim.Native.Nat.{_≤_};
 ghost use mathlib.Core.Path.{_≡_};
 ghost use lib.ListN.{length};
-ghost use Rattle.printing.specs.Line.{longest};
+ghost use Rattle.line_print.specs.Line.{longest};
 ghost use Rattle.kagbitu.specs.Outcome.{Answered};
 ghost use Rattle.kagbitu.specs.Part.{Inside};
 ghost use Rattle.kagbitu.specs.Run.{Turned, Ended, AllServed};
-use feeding::Server;
 use libc::STDIN_FILENO;
 use libc::STDOUT_FILENO;
+use line_server::Server;
 use outcome::Outcome;
 use part::Part;
 
@@ -77,7 +77,7 @@ fn finish(server: Server, read: Outcome, out: &mut [u8]) -> usize
     ensures within { λ r. ⌜ r ≤ length (now (out .entry)) ⌝ }
     ensures serves { λ r. ⌜ (longest ≤ length (now (out .entry)) → AllServed server (now (out .exit)) r) ⌝ }
 {
-    let finished = feeding::finish(server, out);
+    let finished = line_server::finish(server, out);
     finished.wrote
 }
 
@@ -94,7 +94,7 @@ fn serve(server: Server, part: Part, piece: &[u8], out: &mut [u8]) -> Turn
 {
     let at = part.at;
     let end = part.end;
-    let next = feeding::feed(server, &piece[at..end], out);
+    let next = line_server::feed(server, &piece[at..end], out);
     let rest = part.after(next.used);
     Turn {
         server: next,

@@ -23,10 +23,10 @@ use Rattle.docset.specs.Sets.{docs}
 use Rattle.docset.proofs.SetLaws.{docs-none}
 use Rattle.changes.specs.declared.Update.{Update}
 use Rattle.changes.specs.View.{viewUpdate}
-use Rattle.session.specs.declared.Session.{Session}
-use Rattle.session.specs.View.{viewSlot, grantAt}
-use Rattle.session.specs.Form.{sessionForm, isUnused}
-use Rattle.session.proofs.FormLaws.{unused-parts}
+use Rattle.sessions.specs.declared.session.Session.{Session}
+use Rattle.sessions.specs.session.View.{viewSlot, grantAt}
+use Rattle.sessions.specs.session.Form.{sessionForm, isUnused}
+use Rattle.sessions.proofs.session.FormLaws.{unused-parts}
 use Rattle.sessions.specs.declared.Sessions.{Sessions}
 use Rattle.sessions.specs.View.{viewSessions}
 use Rattle.sessions.specs.Form.{sessionsForm}

@@ -3,10 +3,10 @@ use mathlib.Core.Path.{_≡_}
 use mathlib.Core.Bool.{true, false}
 use mathlib.Core.List.{[]}
 use Rattle.lists.proofs.Forms.{table-unique}
-use Rattle.session.specs.declared.Session.{Session}
-use Rattle.session.specs.View.{viewSlot}
-use Rattle.session.specs.Form.{sessionForm, isUnused}
-use Rattle.session.proofs.Unique.{session-unique, unused-unique}
+use Rattle.sessions.specs.declared.session.Session.{Session}
+use Rattle.sessions.specs.session.View.{viewSlot}
+use Rattle.sessions.specs.session.Form.{sessionForm, isUnused}
+use Rattle.sessions.proofs.session.Unique.{session-unique, unused-unique}
 use Rattle.sessions.specs.declared.Sessions.{Sessions}
 use Rattle.sessions.specs.View.{viewSessions}
 use Rattle.sessions.specs.Form.{sessionsForm}

@@ -2,7 +2,7 @@
 use mathlib.Core.Bool.{Bool}
 use Rattle.rules.specs.Limits.{slotLimit}
 use Rattle.lists.specs.Table.{tableForm}
-use Rattle.session.specs.Form.{sessionForm, isUnused}
+use Rattle.sessions.specs.session.Form.{sessionForm, isUnused}
 use Rattle.sessions.specs.declared.Sessions.{Sessions}
 
 unfoldable pub sessionsForm : Sessions → Bool

@@ -2,7 +2,7 @@
 use mathlib.Core.List.{List}
 use Rattle.rules.specs.Tables as M
 use Rattle.lists.specs.Table.{counted}
-use Rattle.session.specs.View.{viewSlot}
+use Rattle.sessions.specs.session.View.{viewSlot}
 use Rattle.sessions.specs.declared.Sessions.{Sessions}
 
 unfoldable pub viewSessions : Sessions → List M.Slot

@@ -1,4 +1,6 @@
 // The table of the sessions with a slot, in the order of their numbers.
+pub mod session;
+
 ghost use mathlib.Core.Path.{_≡_};
 ghost use mathlib.Core.Bool.{true, cond};
 ghost use mathlib.Core.List.{[]};
@@ -13,8 +15,8 @@ ghost use Rattle.docset.specs.Sets.{docs};
 ghost use Rattle.keys.specs.View.{viewKey};
 ghost use Rattle.changes.specs.View.{viewUpdate};
 ghost use Rattle.changes.specs.Form.{isUsed};
-ghost use Rattle.session.specs.View.{viewSession, viewSlot, within, withSharedAt, grantAt};
-ghost use Rattle.session.specs.Form.{sessionForm};
+ghost use Rattle.sessions.specs.session.View.{viewSession, viewSlot, within, withSharedAt, grantAt};
+ghost use Rattle.sessions.specs.session.Form.{sessionForm};
 ghost use Rattle.sessions.specs.View.{viewSessions};
 ghost use Rattle.sessions.specs.Form.{sessionsForm};
 use changes::Update;

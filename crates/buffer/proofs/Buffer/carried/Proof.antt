@@ -10,7 +10,7 @@ use Rattle.field.specs.View.{viewField, fieldForm}
 use Rattle.rows.specs.View.{viewRows}
 use Rattle.lists.proofs.Loops.{length-mapped}
 use Rattle.lists.proofs.Views.{Working, work-next, work-end}
-use Rattle.batch.specs.View.{viewBatch, carry}
+use Rattle.buffer.specs.batch.View.{viewBatch, carry}
 use Rattle.buffer.specs.View.{viewBuffer}
 use Rattle.buffer.proofs.BufferLaws.{within, carry-used}
 use Rattle.buffer.proofs.Buffer.carried.Statement.{statement}

@@ -6,9 +6,9 @@ use lib.Dec.{eqb}
 use Rattle.rules.specs.Tables as M
 use Rattle.lists.proofs.Loops.{length-mapped}
 use Rattle.lists.proofs.Views.{Seeking, seek-end}
-use Rattle.batch.specs.View.{viewBatch}
+use Rattle.buffer.specs.batch.View.{viewBatch}
 use Rattle.buffer.specs.View.{viewBuffer}
-use Rattle.batch.specs.Form.{batchForm}
+use Rattle.buffer.specs.batch.Form.{batchForm}
 use Rattle.buffer.proofs.BufferLaws.{within, seek-used, number-hit, number-next, batch-form}
 use Rattle.buffer.proofs.Buffer.changes_of.Statement.{statement}
 use Rattle.buffer.proofs.Buffer.changes_of.Tie as tie

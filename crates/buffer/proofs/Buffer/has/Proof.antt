@@ -6,7 +6,7 @@ use lib.Dec.{eqb}
 use Rattle.rules.specs.Tables as M
 use Rattle.lists.proofs.Loops.{length-mapped}
 use Rattle.lists.proofs.Views.{Seeking, seek-end}
-use Rattle.batch.specs.View.{viewBatch}
+use Rattle.buffer.specs.batch.View.{viewBatch}
 use Rattle.buffer.specs.View.{viewBuffer}
 use Rattle.buffer.proofs.BufferLaws.{within, seek-used, number-hit, number-next}
 use Rattle.buffer.proofs.Buffer.has.Statement.{statement}

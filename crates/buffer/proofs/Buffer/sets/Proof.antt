@@ -7,7 +7,7 @@ use Rattle.rules.specs.Changes as C
 use Rattle.keys.specs.View.{viewPlace}
 use Rattle.lists.proofs.Loops.{length-mapped}
 use Rattle.lists.proofs.Views.{Seeking, seek-hit, seek-next, seek-end}
-use Rattle.batch.specs.View.{viewBatch}
+use Rattle.buffer.specs.batch.View.{viewBatch}
 use Rattle.buffer.specs.View.{viewBuffer}
 use Rattle.buffer.proofs.BufferLaws.{within, sets-used}
 use Rattle.buffer.proofs.Buffer.sets.Statement.{statement}

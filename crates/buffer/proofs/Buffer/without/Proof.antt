@@ -8,8 +8,8 @@ use mathlib.Core.Bool.{not}
 use lib.Dec.{eqb}
 use Rattle.lists.proofs.Loops.{length-mapped}
 use Rattle.lists.proofs.Sift.{Sifting, sift-start, sift-out, sift-in, sift-done}
-use Rattle.batch.specs.View.{viewBatch}
-use Rattle.batch.specs.Form.{batchForm, isUnused}
+use Rattle.buffer.specs.batch.View.{viewBatch}
+use Rattle.buffer.specs.batch.Form.{batchForm, isUnused}
 use Rattle.buffer.specs.View.{viewBuffer}
 use Rattle.buffer.specs.Form.{bufferForm}
 use Rattle.buffer.proofs.Buffer.without.Statement.{statement}

@@ -6,7 +6,7 @@ use Rattle.rules.specs.Reading as D
 use Rattle.keys.specs.View.{viewPlace, viewKeys}
 use Rattle.lists.proofs.Loops.{length-mapped}
 use Rattle.lists.proofs.Views.{Seeking, seek-start, seek-hit, seek-next, seek-end, seek-past}
-use Rattle.cached.specs.View.{viewCached}
+use Rattle.cache.specs.cached.View.{viewCached}
 use Rattle.cache.specs.View.{viewCache}
 use Rattle.cache.proofs.CacheLaws.{shows-is, field-of, entry-form}
 use Rattle.cache.proofs.Cache.field.Statement.{statement}

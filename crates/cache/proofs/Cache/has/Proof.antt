@@ -8,7 +8,7 @@ use borrow.Author.Tests.{eq-eqb, ne-eqb}
 use Rattle.rules.specs.Tables as M
 use Rattle.lists.proofs.Loops.{length-mapped}
 use Rattle.lists.proofs.Views.{Seeking, seek-start, seek-hit, seek-next, seek-end, seek-past}
-use Rattle.cached.specs.View.{viewCached}
+use Rattle.cache.specs.cached.View.{viewCached}
 use Rattle.cache.specs.View.{viewCache}
 use Rattle.cache.proofs.CacheLaws.{key-is}
 use Rattle.cache.proofs.Cache.has.Statement.{statement}

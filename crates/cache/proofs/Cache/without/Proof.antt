@@ -9,8 +9,8 @@ use Rattle.docset.specs.Sets.{docs}
 use Rattle.keys.specs.View.{viewKeys}
 use Rattle.lists.proofs.Loops.{length-mapped}
 use Rattle.lists.proofs.Sift.{Sifting, sift-start, sift-in, sift-out, sift-done}
-use Rattle.cached.specs.View.{viewCached}
-use Rattle.cached.specs.Form.{cachedForm, isBlankCached}
+use Rattle.cache.specs.cached.View.{viewCached}
+use Rattle.cache.specs.cached.Form.{cachedForm, isBlankCached}
 use Rattle.cache.specs.View.{viewCache}
 use Rattle.cache.specs.Form.{cacheForm}
 use Rattle.cache.proofs.CacheLaws.{none-lost, length-is, leaves, remains}

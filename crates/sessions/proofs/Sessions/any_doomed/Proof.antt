@@ -6,7 +6,7 @@ use Rattle.lists.proofs.Loops.{length-mapped}
 use Rattle.lists.proofs.Views.{Seeking, seek-start}
 use Rattle.lists.proofs.Ends.{seek-found, seek-on, seek-done}
 use Rattle.sessions.specs.View.{viewSessions}
-use Rattle.session.specs.View.{viewSlot, viewSession}
+use Rattle.sessions.specs.session.View.{viewSlot, viewSession}
 use mathlib.Core.Bool.{true, false}
 use Rattle.rules.specs.Lists.{any}
 use Rattle.sessions.proofs.Sessions.any_doomed.Statement.{statement}

@@ -7,7 +7,7 @@ use mathlib.Core.Path.{_≡_}
 use mathlib.Core.Bool.{true}
 use Rattle.sessions.specs.Form.{sessionsForm}
 use Rattle.changes.specs.Form.{isUsed}
-use Rattle.session.proofs.SessionLaws.{grant-none}
+use Rattle.sessions.proofs.session.SessionLaws.{grant-none}
 use Rattle.sessions.proofs.SessionsLaws.{Making, make-start, make-new, make-same, make-end, granted, granted-all}
 use Rattle.sessions.proofs.Sessions.changed.Statement.{statement}
 use Rattle.sessions.proofs.Sessions.changed.Tie as tie

@@ -7,8 +7,8 @@ use mathlib.Core.Path.{ap}
 use mathlib.Core.Bool.{not}
 use lib.Dec.{eqb}
 use Rattle.lists.proofs.Sift.{Sifting, sift-start, sift-out, sift-in, sift-done}
-use Rattle.session.specs.View.{viewSlot}
-use Rattle.session.specs.Form.{sessionForm, isUnused}
+use Rattle.sessions.specs.session.View.{viewSlot}
+use Rattle.sessions.specs.session.Form.{sessionForm, isUnused}
 use Rattle.sessions.specs.View.{viewSessions}
 use Rattle.sessions.specs.Form.{sessionsForm}
 use Rattle.sessions.proofs.SessionsLaws.{number-is, number-not}

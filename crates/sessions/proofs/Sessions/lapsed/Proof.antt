@@ -8,7 +8,7 @@ use mathlib.Core.Bool.{true}
 use Rattle.sessions.specs.Form.{sessionsForm}
 use Rattle.rules.specs.Tables.{remade}
 use Rattle.rules.specs.Effects.{lapse}
-use Rattle.session.proofs.LapseLaws.{lapsed-now, lapsed-not}
+use Rattle.sessions.proofs.session.LapseLaws.{lapsed-now, lapsed-not}
 use Rattle.sessions.proofs.SessionsLaws.{Making, make-start, make-new, make-same, make-end}
 use Rattle.sessions.proofs.Sessions.lapsed.Statement.{statement}
 use Rattle.sessions.proofs.Sessions.lapsed.Tie as tie

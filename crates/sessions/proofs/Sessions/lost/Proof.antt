@@ -2,7 +2,7 @@
 use borrow.Author.Needs.{needs}
 use Prim.Native.Nat.{_-_}
 use Rattle.lists.proofs.Loops.{length-mapped}
-use Rattle.session.specs.View.{viewSlot}
+use Rattle.sessions.specs.session.View.{viewSlot}
 use Rattle.rules.specs.Effects.{isLost}
 use Rattle.docset.specs.Sets.{docs}
 use Rattle.lists.proofs.Views.{Working, work-start, work-next}

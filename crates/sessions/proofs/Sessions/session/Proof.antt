@@ -5,10 +5,10 @@ use Rattle.lists.proofs.Loops.{length-mapped}
 use Rattle.lists.proofs.Views.{Seeking, seek-start}
 use Rattle.lists.proofs.Ends.{seek-found, seek-on, seek-done}
 use Rattle.sessions.specs.View.{viewSessions}
-use Rattle.session.specs.View.{viewSlot}
+use Rattle.sessions.specs.session.View.{viewSlot}
 use lib.Dec.{eqb}
 use Rattle.rules.specs.Tables.{session, doomedSession}
-use Rattle.session.proofs.SessionLaws.{slot-session}
+use Rattle.sessions.proofs.session.SessionLaws.{slot-session}
 use Rattle.sessions.proofs.SessionsLaws.{slot-form, unused-form, number-is, number-not}
 use Rattle.sessions.proofs.Sessions.session.Statement.{statement}
 use Rattle.sessions.proofs.Sessions.session.Tie as tie

@@ -9,8 +9,8 @@ use Rattle.sessions.specs.Form.{sessionsForm}
 use Rattle.rules.specs.Tables.{remade}
 use Rattle.rules.specs.Effects.{onlyAt}
 use Rattle.keys.specs.View.{viewKey}
-use Rattle.session.specs.View.{within, withSharedAt}
-use Rattle.session.proofs.SessionLaws.{own-is, own-other}
+use Rattle.sessions.specs.session.View.{within, withSharedAt}
+use Rattle.sessions.proofs.session.SessionLaws.{own-is, own-other}
 use Rattle.sessions.proofs.SessionsLaws.{Making, make-start, make-new, make-same, make-end}
 use Rattle.sessions.proofs.Sessions.shared.Statement.{statement}
 use Rattle.sessions.proofs.Sessions.shared.Tie as tie

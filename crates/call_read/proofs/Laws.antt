@@ -1,0 +1,239 @@
+-- What read answers, the words it fills and the plant it leaves, one law for each way out.
+use mathlib.Core.Path.{_≡_, refl, sym, _∙_, ap, ap₂, subst}
+use mathlib.Core.Bool.{Bool, true, false, cond, true≢false}
+use mathlib.Core.Option.{Option, none, some}
+use mathlib.Core.List.{List, [], _∷_, map}
+use Prim.Native.Nat.{ℕ, suc, _<_, _≤_, _*_}
+use lib.IntN.{ℤ, pos}
+use lib.ListN.{length, length-map}
+use mir.Syntax.{w64}
+use mir.Val.{SFits}
+use borrow.Author.Tests.{not-false, ltb-true, ltb-false, le-leb}
+use Rattle.rules.specs.Limits.{keyCount, lastSession, wordsPerField}
+use Rattle.rules.specs.Values.{below, natOf}
+use Rattle.rules.specs.Values as S
+use Rattle.rules.specs.Refusals.{Refusal, outOfRange, wasDoomed, fewWords, storeAway, first}
+use Rattle.rules.specs.Tables as M
+use Rattle.rules.specs.Reading.{seen}
+use Rattle.rules.specs.Calls.{Call, Read, Pick, fine, markNumber}
+use Rattle.rules.specs.Calls as C
+use Rattle.rules.specs.Conditions.{conditions}
+use Rattle.rules.specs.Effects.{mark, withShared, onlyAt, cacheBy, afterRead}
+use Rattle.rules.specs.Step.{accepted, settle, step}
+use Rattle.rules.proofs.Laws.{NoneMet, none-met, not-met}
+use Rattle.rules.proofs.Steps.{step-fine}
+use Rattle.rules.proofs.Away.{key-places}
+use Rattle.arguments.specs.Numbers.{sessionNumber}
+use Rattle.arguments.proofs.Numbers.{held, session-is, indexed-is}
+use Rattle.keys.specs.View.{viewKey, viewKeys}
+use Rattle.keys.specs.declared.Key.{Key}
+use Rattle.sessions.specs.session.View.{within, withSharedAt}
+use Rattle.sessions.proofs.session.SessionLaws.{within-all}
+use Rattle.sessions.proofs.session.Granting.{shared-kept}
+use Rattle.sessions.specs.View.{viewSessions}
+use Rattle.sessions.specs.Form.{sessionsForm}
+use Rattle.sessions.specs.declared.Sessions.{Sessions}
+use Rattle.cache.specs.cached.View.{viewCached}
+use Rattle.cache.specs.cached.Form.{cachedForm}
+use Rattle.cache.specs.declared.cached.Cached.{Cached}
+use Rattle.cache.specs.View.{viewCache}
+use Rattle.cache.specs.Form.{cacheForm}
+use Rattle.cache.specs.declared.Cache.{Cache}
+use Rattle.plant.specs.View.{viewPlant, keptPlant, plantForm}
+use Rattle.plant.specs.declared.Plant.{Plant}
+use Rattle.plant.proofs.PlantLaws.{kept-parts}
+use Rattle.plant.proofs.Formed.{form-parts, formed}
+use Rattle.answers.specs.View.{viewAnswer, viewMark, isRefused}
+use Rattle.answers.specs.Own.{isAnswerOf}
+use Rattle.answers.proofs.Own.{refused-own}
+use Rattle.answers.specs.declared.Answer.{Answer}
+use Rattle.answers.specs.declared.Mark.{Mark}
+use Rattle.promises.specs.Promise.{chosen, result, Answers, Performs}
+use Rattle.promises.proofs.Telling.{none-held, left-accepted}
+use Rattle.call_read_shown.specs.values.Shown.{shownIn}
+use Rattle.call_read.specs.admission.Told.{told}
+use Rattle.sight.specs.Sight.{sight, sightAway, atHand}
+use Rattle.call_read_shown.specs.Fields.{ownOf, byMark, shownFields}
+use Rattle.call_read_shown.specs.declared.Marked.{Marked}
+use Rattle.call_read_shown.proofs.Kept.{shown-is, cache-is}
+use Rattle.call_read.specs.Shows.{Shows, answerBy, wordsBy, foundAnswer, foundWords}
+use Rattle.call_read.proofs.Named.{named}
+
+-- ── the tables looked at are the plant's ──
+module _ (p : Plant) (n k : ℕ) where
+  abbrev looked : M.Plant
+  looked = sight (p .near) (p .store) (p .keys) (p .cache) (p .sessions) (p .buffer) (p .rows)
+
+  same-conditions : (lent : List ℤ) → conditions (Read (pos n) (pos k)) lent (sightAway (p .near) (p .keys) (p .cache) (p .sessions) (p .buffer)) ≡ conditions (Read (pos n) (pos k)) lent (viewPlant p)
+  unfolding conditions sightAway viewPlant
+  same-conditions lent = refl
+
+  same-mark : mark n k looked ≡ mark n k (viewPlant p)
+  unfolding sight viewPlant
+  same-mark = refl
+
+  same-fields : shownFields n k looked ≡ shownFields n k (viewPlant p)
+  unfolding shownFields sight viewPlant
+  same-fields = go (mark n k (viewPlant p))
+    where
+      go : (m : C.Mark) → byMark m n k looked ≡ byMark m n k (viewPlant p)
+      go C.fromCache = refl
+      go C.cachedNow = refl
+      go C.ownChange = refl
+
+  -- while the store is away they are found without it
+  away-mark : mark n k looked ≡ mark n k (atHand p)
+  unfolding sight sightAway
+  away-mark = refl
+
+  away-fields : p .near ≡ false → shownFields n k looked ≡ shownFields n k (atHand p)
+  unfolding shownFields sight sightAway
+  away-fields h = go (mark n k (atHand p))
+    where
+      go : (m : C.Mark) → byMark m n k looked ≡ byMark m n k (atHand p)
+      go C.fromCache = refl
+      go C.cachedNow = rw h refl
+      go C.ownChange = rw h refl
+
+-- ── what a refusal, or none, says of the step ──
+told-refused : (o : Option Refusal) (c : Call) (lent : List ℤ) (pick : Pick) (p : M.Plant) → isRefused (told o) ≡ true → (told o ≡ settle o c lent pick p .answer) × (lent ≡ settle o c lent pick p .words)
+told-refused none c lent pick p h = absurd (true≢false (sym h))
+told-refused (some r) c lent pick p h = (refl, refl)
+
+told-found : (o : Option Refusal) (m : C.Mark) (fs : List S.Field) (lent : List ℤ) → isRefused (told o) ≡ true → (told o ≡ answerBy o m) × (lent ≡ wordsBy o fs lent)
+told-found none m fs lent h = absurd (true≢false (sym h))
+told-found (some r) m fs lent h = (refl, refl)
+
+told-none : (o : Option Refusal) → isRefused (told o) ≡ false → o ≡ none
+told-none none h = refl
+told-none (some r) h = absurd (true≢false h)
+
+-- ── what no refusal says of the numbers ──
+module _ (p : Plant) (h : keptPlant p ≡ true) (n k : ℕ) (lent : List ℤ) (m : NoneMet (conditions (Read (pos n) (pos k)) lent (viewPlant p))) where
+  in-range : k < keyCount
+  unfolding conditions
+  in-range = ltb-true k keyCount (not-false _ (not-met _ outOfRange (m .0)))
+
+  is-live : M.session n (viewSessions (p .sessions)) .doomed ≡ false
+  unfolding conditions viewPlant
+  is-live = not-met _ wasDoomed (m .1 .1 .0)
+
+  fields-are : shownFields n k (viewPlant p) ≡ map (seen (viewPlant p) (ownOf n (viewPlant p))) (viewPlant p .keys k)
+  unfolding conditions
+  fields-are = shown-is (viewPlant p) (kept-parts p h) n k in-range (not-met _ storeAway (m .1 .1 .1 .1 .1 .1 .0))
+
+  cache-are : cacheBy (mark n k (viewPlant p)) 0 (record { key = k; fields = shownFields n k (viewPlant p) }) (viewPlant p .cache) ≡ afterRead n k (chosen (viewPlant p)) (viewPlant p) .cache
+  unfolding conditions afterRead chosen
+  cache-are = cache-is (viewPlant p) (kept-parts p h) n k in-range (not-met _ storeAway (m .1 .1 .1 .1 .1 .1 .0)) (chosen (viewPlant p)) refl
+
+  words-are : (fs : List S.Field) → fs ≡ shownFields n k (viewPlant p) → shownIn fs lent ≡ accepted (Read (pos n) (pos k)) lent (chosen (viewPlant p)) (viewPlant p) .words
+  unfolding conditions accepted shownIn
+  words-are fs e =
+      let qs : List S.Place = viewPlant p .keys k in
+      let l : wordsPerField * length qs ≤ length lent = ltb-false (length lent) (wordsPerField * length qs) (not-met _ fewWords (m .1 .1 .1 .1 .0)) in
+      rw (e ∙ fields-are, length-map qs (seen (viewPlant p) (ownOf n (viewPlant p))), le-leb (wordsPerField * length qs) (length lent) l) refl
+
+pub own-refusal : (z y : ℤ) (a : Answer) (r : Bool) → r ≡ isRefused (viewAnswer a) → r ≡ true → isAnswerOf (Read z y) a ≡ true
+own-refusal z y a r er t = refused-own (Read z y) a (sym er ∙ t)
+
+-- ── the answer and the words ──
+module _ (p : Plant) (z : ℤ) (fz : SFits w64 z) (n : ℕ) (en : n ≡ cond (below (held z) (suc lastSession)) (natOf (held z)) 0)
+    (y : ℤ) (fy : SFits w64 y) (k : ℕ) (ek : k ≡ cond (below (held y) keyCount) (natOf (held y)) keyCount)
+    (lent : List ℤ) (a : Answer) (ea : (words : List ℤ) → length lent ≡ length words → viewAnswer a ≡ told (first (conditions (Read (pos n) (pos k)) words (sightAway (p .near) (p .keys) (p .cache) (p .sessions) (p .buffer)))))
+    (r : Bool) (er : r ≡ isRefused (viewAnswer a)) where
+  as-told : viewAnswer a ≡ told (first (conditions (Read (pos n) (pos k)) lent (viewPlant p)))
+  as-told = ea lent refl ∙ ap (λ l. told (first l)) (same-conditions p n k lent)
+
+  is-told : isRefused (told (first (conditions (Read (pos n) (pos k)) lent (viewPlant p)))) ≡ r
+  is-told = ap isRefused (sym as-told) ∙ sym er
+
+  -- what is found without the store, at these numbers
+  abbrev met : Option Refusal
+  met = first (conditions (Read (pos n) (pos k)) lent (atHand p))
+
+  met-is : isRefused (told met) ≡ r
+  met-is = ap isRefused (sym (ea lent refl)) ∙ sym er
+
+  abbrev Found : C.Answer → List ℤ → ℕ → ℕ → Type 0
+  Found b ws i j = (b ≡ answerBy (first (conditions (Read (pos i) (pos j)) lent (atHand p))) (mark i j (atHand p))) × (ws ≡ wordsBy (first (conditions (Read (pos i) (pos j)) lent (atHand p))) (shownFields i j (atHand p)) lent)
+
+  found : (b : C.Answer) (ws : List ℤ) → Found b ws n k → (b ≡ foundAnswer z y lent (atHand p)) × (ws ≡ foundWords z y lent (atHand p))
+  unfolding foundAnswer foundWords
+  found b ws h = subst (Found b ws (sessionNumber z)) (indexed-is y fy keyCount k ek) (subst (λ i. Found b ws i k) (session-is z fz n en) h)
+
+  module _ (t : r ≡ true) where
+    pub turned-found : p .near ≡ false → (viewAnswer a ≡ foundAnswer z y lent (atHand p)) × (lent ≡ foundWords z y lent (atHand p))
+    turned-found h = let x = told-found met (mark n k (atHand p)) (shownFields n k (atHand p)) lent (met-is ∙ t) in found (viewAnswer a) lent (ea lent refl ∙ x .0, x .1)
+
+    turned : (viewAnswer a ≡ result (Read (pos n) (pos k)) lent p .answer) × (lent ≡ result (Read (pos n) (pos k)) lent p .words)
+    unfolding step
+    turned =
+        let s = told-refused (first (conditions (Read (pos n) (pos k)) lent (viewPlant p))) (Read (pos n) (pos k)) lent (chosen (viewPlant p)) (viewPlant p) (is-told ∙ t) in
+        (as-told ∙ s .0, s .1)
+
+    pub turned-away : Answers (Read z y) lent p a
+    turned-away h = turned .0 ∙ ap (λ (x : C.Result). x .answer) (sym (named p z fz n en y fy k ek h lent))
+
+    pub none-touched : keptPlant p ≡ true → lent ≡ result (Read z y) lent p .words
+    none-touched h = turned .1 ∙ ap (λ (x : C.Result). x .words) (sym (named p z fz n en y fy k ek h lent))
+
+  module _ (t : r ≡ false) where
+    pub shown-found : (m : Mark) → viewMark m ≡ mark n k (looked p n k) → (c : Cached) (ws : List ℤ) → viewCached c ≡ record { key = k; fields = shownFields n k (looked p n k) } → ws ≡ shownIn (viewCached c .fields) lent → p .near ≡ false
+        → (fine (markNumber (viewMark m) ∷ []) ≡ foundAnswer z y lent (atHand p)) × (ws ≡ foundWords z y lent (atHand p))
+    shown-found m em c ws ec ew h =
+        let none : met ≡ none = told-none met (met-is ∙ t) in
+        found (fine (markNumber (viewMark m) ∷ [])) ws (rw none (ap (λ (x : C.Mark). fine (markNumber x ∷ [])) (em ∙ away-mark p n k)), rw none (ew ∙ ap (λ fs. shownIn fs lent) (ap (λ (x : M.Cached). x .fields) ec ∙ away-fields p n k h)))
+
+    none-meets : NoneMet (conditions (Read (pos n) (pos k)) lent (viewPlant p))
+    none-meets = none-met (conditions (Read (pos n) (pos k)) lent (viewPlant p)) (told-none (first (conditions (Read (pos n) (pos k)) lent (viewPlant p))) (is-told ∙ t))
+
+    reads : keptPlant p ≡ true → accepted (Read (pos n) (pos k)) lent (chosen (viewPlant p)) (viewPlant p) ≡ result (Read z y) lent p
+    reads h = sym (named p z fz n en y fy k ek h lent ∙ step-fine (Read (pos n) (pos k)) lent (chosen (viewPlant p)) (viewPlant p) none-meets)
+
+    pub marked : (m : Mark) → viewMark m ≡ mark n k (looked p n k) → keptPlant p ≡ true → fine (markNumber (viewMark m) ∷ []) ≡ result (Read z y) lent p .answer
+    unfolding accepted
+    marked m e h = ap (λ (x : C.Mark). fine (markNumber x ∷ [])) (e ∙ same-mark p n k) ∙ ap (λ (x : C.Result). x .answer) (reads h)
+
+    pub filled : (c : Cached) (ws : List ℤ) → viewCached c ≡ record { key = k; fields = shownFields n k (looked p n k) } → ws ≡ shownIn (viewCached c .fields) lent → keptPlant p ≡ true → ws ≡ result (Read z y) lent p .words
+    filled c ws e w h = w ∙ words-are p h n k lent none-meets (viewCached c .fields) (ap (λ (x : M.Cached). x .fields) e ∙ same-fields p n k) ∙ ap (λ (x : C.Result). x .words) (reads h)
+
+-- ── what it shows ──
+module _ (p : Plant) (z : ℤ) (fz : SFits w64 z) (n : ℕ) (en : n ≡ cond (below (held z) (suc lastSession)) (natOf (held z)) 0)
+    (y : ℤ) (fy : SFits w64 y) (k : ℕ) (ek : k ≡ cond (below (held y) keyCount) (natOf (held y)) keyCount) where
+  pub shown-so : (m : Marked) → viewMark (m .mark) ≡ mark n k (looked p n k) → viewCached (m .fields) ≡ record { key = k; fields = shownFields n k (looked p n k) } → Shows z y p m
+  shown-so m em ef = (em ∙ same-mark p n k ∙ ap₂ (λ a b. mark a b (viewPlant p)) (session-is z fz n en) (indexed-is y fy keyCount k ek), ef ∙ ap (λ fs. record { key = k; fields = fs }) (same-fields p n k) ∙ ap₂ (λ a b. record { key = b; fields = shownFields a b (viewPlant p) }) (session-is z fz n en) (indexed-is y fy keyCount k ek))
+
+  caches-so : (m : Marked) → Shows z y p m → cacheBy (viewMark (m .mark)) 0 (viewCached (m .fields)) (viewCache (p .cache)) ≡ cacheBy (mark n k (viewPlant p)) 0 (record { key = k; fields = shownFields n k (viewPlant p) }) (viewCache (p .cache))
+  caches-so m s =
+      ap₂ (λ x c. cacheBy x 0 c (viewCache (p .cache)))
+      (s .0 ∙ sym (ap₂ (λ a b. mark a b (viewPlant p)) (session-is z fz n en) (indexed-is y fy keyCount k ek)))
+      (s .1 ∙ sym (ap₂ (λ a b. record { key = b; fields = shownFields a b (viewPlant p) }) (session-is z fz n en) (indexed-is y fy keyCount k ek)))
+
+-- ── the plant left ──
+module _ (p : Plant) (z : ℤ) (fz : SFits w64 z) (y : ℤ) (fy : SFits w64 y)
+    (n : ℕ) (en : n ≡ cond (below (held z) (suc lastSession)) (natOf (held z)) 0) (k : ℕ) (ek : k ≡ cond (below (held y) keyCount) (natOf (held y)) keyCount)
+    (m : Marked) (c : Cache) (ec : viewCache c ≡ cacheBy (viewMark (m .mark)) 0 (viewCached (m .fields)) (viewCache (p .cache))) (key : Key) (eq : viewKey key ≡ viewKeys (p .keys) k)
+    (s : Sessions) (es : viewSessions s ≡ M.each (onlyAt n (withSharedAt (p .clock) (within (viewKey key)))) (viewSessions (p .sessions))) where
+  abbrev left : Plant
+  left = record { store = p .store; keys = p .keys; cache = c; sessions = s; buffer = p .buffer; rows = p .rows; hands = p .hands; queue = p .queue; clock = p .clock; near = p .near; next = p .next }
+
+  -- all documents of the key are among those that leases are held on
+  shared-is : keptPlant p ≡ true → k < keyCount → M.session n (viewSessions (p .sessions)) .doomed ≡ false → viewSessions s ≡ M.each (onlyAt n (withShared (p .clock) (viewKeys (p .keys) k))) (viewSessions (p .sessions))
+  unfolding viewPlant
+  shared-is h l d =
+      es ∙ shared-kept n (kept-parts p h .slots) d (within (viewKey key)) ∙ ap (λ (qs : List S.Place). M.each (onlyAt n (withShared (p .clock) qs)) (viewSessions (p .sessions)))
+      (ap within eq ∙ within-all (viewKeys (p .keys) k) (key-places (viewPlant p) k (kept-parts p h) l))
+
+  pub leaves : Shows z y p m → Performs (Read z y) p left
+  unfolding viewPlant accepted afterRead
+  leaves shows h lent i =
+      let e = named p z fz n en y fy k ek h lent in
+      let none = none-held (Read (pos n) (pos k)) lent (chosen (viewPlant p)) (viewPlant p) _ (ap (λ (x : C.Result). x .answer) e) i in
+      rw (ec ∙ caches-so p z fz n en y fy k ek m shows ∙ cache-are p h n k lent none, shared-is h (in-range p h n k lent none) (is-live p h n k lent none)) refl
+      ∙ left-accepted (Read (pos n) (pos k)) lent (chosen (viewPlant p)) (viewPlant p) none
+      ∙ ap (λ (x : C.Result). x .plant) (sym e)
+
+  pub leaves-form : (cachedForm (m .fields) ≡ true → cacheForm (p .cache) ≡ true → cacheForm c ≡ true) → (sessionsForm (p .sessions) ≡ true → sessionsForm s ≡ true) → cachedForm (m .fields) ≡ true → plantForm p ≡ true → plantForm left ≡ true
+  leaves-form fc fs g f =
+      let x = form-parts p f in
+      formed _ (record { store = x .store; keys = x .keys; cache = fc g (x .cache); sessions = fs (x .sessions); buffer = x .buffer; rows = x .rows; hands = x .hands; queue = x .queue })

@@ -1,0 +1,4 @@
+-- What a read shows and leaves.
+pub mod Shows
+pub mod Left
+pub mod admission

@@ -1,0 +1,3 @@
+-- What a read shows.
+pub mod Fields
+pub mod values

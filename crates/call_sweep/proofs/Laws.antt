@@ -1,0 +1,78 @@
+-- What sweep picks, answers and leaves, one law for each way out.
+use mathlib.Core.Path.{_≡_, refl, _∙_}
+use mathlib.Core.Bool.{Bool, true, false, cond, not}
+use mathlib.Core.List.{List, [], _∷_}
+use Prim.Native.Nat.{ℕ}
+use lib.IntN.{ℤ}
+use lib.ListN.{length, take}
+use Rattle.rules.specs.Limits.{sweepLimit}
+use Rattle.rules.specs.Lists.{has, keep}
+use Rattle.rules.specs.Refusals.{storeAway, _⇒_}
+use Rattle.rules.specs.Tables as M
+use Rattle.rules.specs.Calls.{Sweep, refused, fine}
+use Rattle.rules.specs.Calls as C
+use Rattle.rules.specs.Conditions.{conditions}
+use Rattle.rules.specs.Effects.{swept}
+use Rattle.rules.specs.Step.{accepted}
+use Rattle.lists.specs.Find.{fold}
+use Rattle.lists.specs.Table.{counted}
+use Rattle.lists.proofs.Views.{keepRoom, first-kept}
+use Rattle.promises.specs.Promise.{chosen, result, Performs}
+use Rattle.promises.proofs.Telling.{refuses, accepts, none-held, left-accepted}
+use Rattle.rows.specs.View.{viewRows, viewPicks, rowsForm}
+use Rattle.rows.specs.declared.Picks.{Picks}
+use Rattle.rows.specs.declared.Rows.{Rows}
+use Rattle.buffer.specs.View.{viewBuffer}
+use Rattle.workers.specs.View.{viewHands}
+use Rattle.plant.specs.View.{viewPlant, keptPlant, plantForm}
+use Rattle.plant.specs.With.{withRows}
+use Rattle.plant.specs.declared.Plant.{Plant}
+use Rattle.plant.proofs.Formed.{form-parts, formed}
+use Rattle.call_sweep.specs.MayGo.{mayGo}
+
+-- ── the picks ──
+module _ (l : List M.Batch) (hands : ℕ → M.Hand) (n : ℕ) where
+  pub stays-buffered : (t : Bool) → t ≡ M.isBuffered n l → t ≡ true → false ≡ mayGo l hands n
+  stays-buffered t e h = rw (← e, h) refl
+
+  pub goes-unheld : (t : Bool) → t ≡ M.isBuffered n l → t ≡ false → (u : Bool) → u ≡ M.anyHand hands n → not u ≡ mayGo l hands n
+  goes-unheld t e h u g = rw (← e, h, ← g) refl
+
+  module _ (t : Bool) (e : t ≡ mayGo l hands n) (x y : List ℕ) where
+    pub one-picked : t ≡ true → (r : List ℕ) → r ≡ x → r ≡ cond (mayGo l hands n) x y
+    one-picked h r g = g ∙ rw (← e, h) refl
+
+    pub one-left : t ≡ false → y ≡ cond (mayGo l hands n) x y
+    one-left h = rw (← e, h) refl
+
+pub pick-start : (rows : Rows) (p : ℕ → Bool) (picks : Picks) → viewPicks picks ≡ [] → take sweepLimit (keep p (viewRows rows)) ≡ fold (keepRoom sweepLimit p) (viewPicks picks) (counted (λ n. n) (rows .count) (rows .numbers))
+unfolding viewRows
+pick-start rows p picks e = first-kept sweepLimit p (counted (λ n. n) (rows .count) (rows .numbers)) ∙ rw e refl
+
+-- ── what is answered ──
+module _ (p : Plant) (lent : List ℤ) (kept : keptPlant p ≡ true) where
+  abbrev Answered : C.Answer → Type 0
+  Answered a = a ≡ result Sweep lent p .answer
+
+  pub away : not (p .near) ≡ true → Answered (refused storeAway)
+  unfolding conditions viewPlant _⇒_
+  away h = refuses Sweep lent (chosen (viewPlant p)) (viewPlant p) _ (rw h refl)
+
+  pub picks-told : not (p .near) ≡ false → (l : Picks) → viewPicks l ≡ take sweepLimit (keep (mayGo (viewBuffer (p .buffer)) (viewHands (p .hands))) (viewRows (p .rows)))
+      → (n : ℕ) → n ≡ length (viewPicks l) → Answered (fine (n ∷ []))
+  unfolding conditions viewPlant _⇒_ accepted chosen
+  picks-told h l el n en = rw (en, el) (accepts Sweep lent (chosen (viewPlant p)) (viewPlant p) (rw h refl))
+
+-- ── the plant left ──
+module _ (p : Plant) (l : Picks) (el : viewPicks l ≡ take sweepLimit (keep (mayGo (viewBuffer (p .buffer)) (viewHands (p .hands))) (viewRows (p .rows))))
+    (r : Rows) (er : viewRows r ≡ keep (λ n. not (has n (viewPicks l))) (viewRows (p .rows))) where
+  pub removed : Performs Sweep p (withRows p r)
+  unfolding conditions viewPlant accepted swept chosen
+  removed kept lent h =
+      let m = none-held Sweep lent (chosen (viewPlant p)) (viewPlant p) _ refl h in
+      rw (er, el) refl ∙ left-accepted Sweep lent (chosen (viewPlant p)) (viewPlant p) m
+
+  pub removed-form : rowsForm r ≡ true → plantForm p ≡ true → plantForm (withRows p r) ≡ true
+  removed-form fr f =
+      let x = form-parts p f in
+      formed _ (record { store = x .store; keys = x .keys; cache = x .cache; sessions = x .sessions; buffer = x .buffer; rows = fr; hands = x .hands; queue = x .queue })

@@ -1,0 +1,73 @@
+-- `pick` meets its contract.
+use borrow.Author.Needs.{needs}
+use Prim.Native.Nat.{_-_}
+use lib.ListN.{take}
+use Rattle.rules.specs.Limits.{rowLimit, sweepLimit}
+use Rattle.rules.specs.Lists.{keep}
+use Rattle.lists.proofs.Views.{Working, work-start, work-next, work-end, work-past, keepRoom}
+use Rattle.rows.specs.View.{viewRows, viewPicks}
+use Rattle.buffer.specs.View.{viewBuffer}
+use Rattle.workers.specs.View.{viewHands}
+use Rattle.call_sweep.specs.MayGo.{mayGo}
+use Rattle.call_sweep.proofs.Laws.{pick-start}
+use Rattle.call_sweep.proofs.pick.Statement.{statement}
+use Rattle.call_sweep.proofs.pick.Tie as tie
+
+abbrev Inv-loop : tie.InvT-loop
+Inv-loop buffer hands rows count picks₀ i₀ picks i =
+    Working (λ n. n) (keepRoom sweepLimit (mayGo (viewBuffer buffer) (viewHands hands))) count rowLimit (rows .numbers)
+    (take sweepLimit (keep (mayGo (viewBuffer buffer) (viewHands hands)) (viewRows rows))) (viewPicks picks) i
+
+abbrev μ-loop : tie.MeasureT-loop
+μ-loop buffer hands rows count picks₀ i₀ picks i = rowLimit - i
+
+cast-count : tie.Need-cast-count Inv-loop μ-loop
+cast-count c = search needs
+
+empty-requires : tie.Need-empty-requires Inv-loop μ-loop
+empty-requires c κs = search needs
+
+loop-holds : tie.Need-loop-holds Inv-loop μ-loop
+loop-holds c = search (work-start, pick-start, needs)
+
+returns : tie.Need-returns Inv-loop μ-loop
+returns c = search (work-end, needs)
+
+mul-n : tie.Need-mul-n Inv-loop μ-loop
+mul-n c = search needs
+
+element-copy-out-n : tie.Need-element-copy-out-n Inv-loop μ-loop
+element-copy-out-n c = search needs
+
+pick-one-requires : tie.Need-pick-one-requires Inv-loop μ-loop
+pick-one-requires c κs = search needs
+
+add-i : tie.Need-add-i Inv-loop μ-loop
+add-i c = search needs
+
+loop-less : tie.Need-loop-less Inv-loop μ-loop
+loop-less c = search needs
+
+loop-again : tie.Need-loop-again Inv-loop μ-loop
+loop-again c = search (work-next, needs)
+
+returns-2 : tie.Need-returns-2 Inv-loop μ-loop
+returns-2 c = search (work-past, needs)
+
+pub pick-spec : {M : Type 1} → statement M
+pick-spec =
+    tie.close
+    (tie.spec
+    Inv-loop
+    μ-loop
+    cast-count
+    empty-requires
+    loop-holds
+    returns
+    mul-n
+    element-copy-out-n
+    pick-one-requires
+    add-i
+    loop-less
+    loop-again
+    returns-2)

@@ -1,0 +1,20 @@
+-- `pick_one` meets its contract.
+use Rattle.call_sweep.proofs.Laws.{one-picked, one-left}
+use borrow.Author.Needs.{needs}
+use Rattle.call_sweep.proofs.pick_one.Statement.{statement}
+use Rattle.call_sweep.proofs.pick_one.Tie as tie
+
+may-go-requires : tie.Need-may-go-requires
+may-go-requires c κs = search needs
+
+push-requires : tie.Need-push-requires
+push-requires c κs = search needs
+
+returns : tie.Need-returns
+returns c = search (one-picked, needs)
+
+returns-2 : tie.Need-returns-2
+returns-2 c = search (one-left, needs)
+
+pub pick-one-spec : {M : Type 1} → statement M
+pick-one-spec = tie.close (tie.spec may-go-requires push-requires returns returns-2)

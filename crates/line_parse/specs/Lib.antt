@@ -1,0 +1,3 @@
+-- What a line says, as the line format sees it.
+pub mod View
+pub mod columns

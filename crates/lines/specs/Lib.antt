@@ -1,2 +1,0 @@
--- What a line says, as the line format sees it.
-pub mod View

@@ -1,2 +1,0 @@
--- What a read shows.
-pub mod Fields

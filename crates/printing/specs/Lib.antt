@@ -1,2 +1,0 @@
--- The line that is printed.
-pub mod Line

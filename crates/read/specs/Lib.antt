@@ -1,3 +1,0 @@
--- What a read shows and leaves.
-pub mod Shows
-pub mod Left

@@ -1,2 +1,0 @@
--- Laws of reading.
-pub mod ReadingLaws

@@ -1,2 +1,0 @@
--- Fields without the store.
-pub mod Shown

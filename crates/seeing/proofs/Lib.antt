@@ -1,2 +1,0 @@
--- Laws of what a session sees.
-pub mod Laws
