@@ -19,13 +19,9 @@ use answers::Answer;
 use answers::Refusal;
 use calls::Call;
 use field::Field;
-use keys::Key;
 use keys::Keys;
 use line_parse::Said;
 use plant::Plant;
-
-// The words of the longest key.
-pub const WORDS: usize = Field::WORDS * Key::LIMIT;
 
 // The plant left, and how many bytes were printed.
 pub struct Served {
@@ -82,7 +78,7 @@ pub fn serve(p: Plant, line: &[u8], out: &mut [u8]) -> Served
     let said = line_parse::parse(line);
     match said {
         Said::Says(c) => {
-            let mut words = [0i32; WORDS];
+            let mut words = [0i32; line_print::WORDS];
             let answer = entry_answer::answer(p, c, &mut words);
             let len = tell(p.keys, c, answer, &words, out);
             let plant = entry_after::after(p, c, answer);

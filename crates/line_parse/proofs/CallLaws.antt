@@ -19,7 +19,8 @@ use Rattle.rules.proofs.Tests.{all-head, all-tail, all-upto}
 use Rattle.lists.proofs.Loops.{drop-next}
 use Rattle.rules.specs.Calls.{Call}
 use Rattle.line_format.specs.Lines.{Name, loads, maps, begins, reads, changes, commits, abandons, advances, takes, applies, deletes, cuts, sweeps, stores, reports, names, nameNumber, arity, callOf, nth}
-use Rattle.line_parse.specs.View.{named, arityOf, unknown, mostNumbers}
+use Rattle.line_format.specs.Bytes.{mostNumbers}
+use Rattle.line_parse.specs.View.{named, arityOf, unknown}
 
 -- ── the calls by their numbers ──
 -- the case of a number passes a test that all cases pass

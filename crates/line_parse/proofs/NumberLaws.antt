@@ -12,14 +12,13 @@ use lib.Signed.{mag}
 use native.Mathlib.Numerals.{add-one}
 use borrow.Author.Tests.{le-ltb, ltb-false}
 use Rattle.rules.proofs.Laws.{byCase}
-use Rattle.line_format.specs.Bytes.{callWidth, numberWidth}
+use Rattle.line_format.specs.Bytes.{callWidth, mostNumbers, numberWidth}
 use Rattle.line_format.specs.Columns.{integerIn}
 use Rattle.line_format.specs.Lines.{joined, numbersIn}
 use Rattle.line_parse.specs.columns.View.{viewNumber}
 use Rattle.line_parse.specs.declared.columns.Number.{Number}
 use Rattle.line_parse.specs.declared.columns.Number.the-variants.{Broken, Is}
 use Rattle.line_parse.proofs.CallLaws.{held, held-is}
-use Rattle.line_parse.specs.View.{mostNumbers}
 
 joined-none : (z : Option ℤ) → joined z none ≡ none
 joined-none none = refl

@@ -12,11 +12,11 @@ use Rattle.rules.specs.Refusals.{badLine, outOfRange}
 use Rattle.rules.specs.Lists.{isCase}
 use Rattle.rules.specs.Calls.{Call}
 use Rattle.rules.proofs.Laws.{byCase}
-use Rattle.line_format.specs.Bytes.{callWidth}
+use Rattle.line_format.specs.Bytes.{callWidth, mostNumbers}
 use Rattle.line_format.specs.Lines.{names, nameNumber, arity, callOf, nth, callIn, numbersIn, withNumbers, said, says, faulty}
 use Rattle.line_parse.specs.columns.View.{viewColumn, noCall}
 use Rattle.line_parse.specs.declared.Numbers.{Numbers}
-use Rattle.line_parse.specs.View.{named, arityOf, unknown, mostNumbers, viewNumbers}
+use Rattle.line_parse.specs.View.{named, arityOf, unknown, viewNumbers}
 use Rattle.line_parse.proofs.CallLaws.{known-few, taken-call}
 
 module _ (l : List ℕ) (n : ℕ) (e : viewColumn n ≡ callIn l) where

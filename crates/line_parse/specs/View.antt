@@ -18,9 +18,6 @@ abbrev pub viewSaid : Said → L.Said
 viewSaid (Says c) = L.says (viewCall c)
 viewSaid (Faulty r) = L.faulty (viewRefusal r)
 
-abbrev pub mostNumbers : ℕ
-mostNumbers = 10
-
 -- the first n values, if they are good
 abbrev pub viewNumbers : ℕ → Numbers → Option (List ℤ)
 viewNumbers n t = cond (t .good) (some (take n (t .values))) none

@@ -7,6 +7,13 @@ ghost use Rattle.line_format.specs.Columns as C;
 ghost use Rattle.line_format.specs.Columns.{trimmed, integerIn};
 ghost use Rattle.line_format.specs.Lines.{callIn};
 ghost use Rattle.line_parse.specs.columns.View.{viewNumber, viewColumn, viewNatural, noNatural, NaturalOf};
+use line_format::BASE;
+use line_format::CALL_WIDTH;
+use line_format::DIGIT_NINE;
+use line_format::DIGIT_ZERO;
+use line_format::MINUS;
+use line_format::NUMBER_WIDTH;
+use line_format::SPACE;
 
 // What columns say: no number, or one.
 pub enum Number {
@@ -19,21 +26,6 @@ pub const BROKEN: u8 = 255;
 
 // The natural number of columns that say none; twelve columns do not reach it.
 const NONE: u64 = 1000000000000;
-
-// Columns of the call, and of every other number.
-pub const CALL_WIDTH: usize = 2;
-
-pub const WIDTH: usize = 12;
-
-const SPACE: u8 = 32;
-
-const MINUS: u8 = 45;
-
-const ZERO: u8 = 48;
-
-const NINE: u8 = 57;
-
-const BASE: u64 = 10;
 
 // The index of the first byte that is no space.
 fn past_spaces(columns: &[u8]) -> usize
@@ -60,7 +52,7 @@ fn natural(columns: &[u8], from: usize) -> u64
     if end <= from {
         return NONE;
     }
-    if columns[from] == ZERO {
+    if columns[from] == DIGIT_ZERO {
         if end <= from + 1 {
             return 0;
         }
@@ -70,13 +62,13 @@ fn natural(columns: &[u8], from: usize) -> u64
     let mut i = from;
     while i < end {
         let b = columns[i];
-        if b < ZERO {
+        if b < DIGIT_ZERO {
             return NONE;
         }
-        if NINE < b {
+        if DIGIT_NINE < b {
             return NONE;
         }
-        value = value * BASE + ((b - ZERO) as u64);
+        value = value * BASE + ((b - DIGIT_ZERO) as u64);
         i += 1;
     }
     value
@@ -136,7 +128,7 @@ pub fn number_at(line: &[u8], at: usize) -> Number
     if len < at {
         return Number::Broken;
     }
-    let end = at + least(WIDTH, len - at);
+    let end = at + least(NUMBER_WIDTH, len - at);
     integer(&line[at..end])
 }
 

@@ -5,13 +5,16 @@ ghost use mathlib.Core.Path.{_≡_};
 ghost use mathlib.Core.List.{[], _∷_};
 ghost use Prim.Native.Nat.{_≤_};
 ghost use lib.ListN.{length, drop};
-ghost use Rattle.line_format.specs.Bytes.{callWidth};
+ghost use Rattle.line_format.specs.Bytes.{callWidth, mostNumbers};
 ghost use Rattle.line_format.specs.Lines.{callOf, nth, numbersIn, said};
 ghost use Rattle.calls.specs.View.{viewCall};
-ghost use Rattle.line_parse.specs.View.{viewSaid, viewNumbers, named, arityOf, mostNumbers};
+ghost use Rattle.line_parse.specs.View.{viewSaid, viewNumbers, named, arityOf};
 use answers::Refusal;
 use calls::Call;
 use columns::Number;
+use line_format::CALL_WIDTH;
+use line_format::MOST_NUMBERS;
+use line_format::NUMBER_WIDTH;
 
 // What a line says: a call, or why it is refused.
 pub enum Said {
@@ -19,16 +22,13 @@ pub enum Said {
     Faulty(Refusal),
 }
 
-// How many numbers the longest call has.
-const MOST: usize = 10;
-
 // The count of the numbers of a call that there is not.
 const UNKNOWN: u8 = 255;
 
 // Whether all numbers of a line are in form, and their values; those past its count do not count.
 struct Numbers {
     good: bool,
-    values: [i64; MOST],
+    values: [i64; MOST_NUMBERS],
 }
 
 const LOAD: u8 = 1;
@@ -77,8 +77,8 @@ fn numbers_of(line: &[u8], count: usize) -> Numbers
     requires long { ⌜ callWidth ≤ length (now line) ⌝ }
     ensures { λ r. ⌜ viewNumbers count r ≡ numbersIn count (drop callWidth (now (line .entry))) ⌝ }
 {
-    let mut values = [0i64; MOST];
-    if line.len() != columns::CALL_WIDTH + count * columns::WIDTH {
+    let mut values = [0i64; MOST_NUMBERS];
+    if line.len() != CALL_WIDTH + count * NUMBER_WIDTH {
         return Numbers {
             good: false,
             values,
@@ -86,7 +86,7 @@ fn numbers_of(line: &[u8], count: usize) -> Numbers
     }
     let mut i: usize = 0;
     while i < count {
-        let number = columns::number_at(line, columns::CALL_WIDTH + i * columns::WIDTH);
+        let number = columns::number_at(line, CALL_WIDTH + i * NUMBER_WIDTH);
         let Number::Is(z) = number else {
             return Numbers {
                 good: false,
@@ -135,7 +135,7 @@ fn made(
 }
 
 // The same from an array.
-fn made_of(call: u8, v: [i64; MOST]) -> Call
+fn made_of(call: u8, v: [i64; MOST_NUMBERS]) -> Call
     ensures { λ r. ⌜ viewCall r ≡ callOf (named call) (nth v) ⌝ }
 {
     made(

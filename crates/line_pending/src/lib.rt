@@ -35,7 +35,7 @@ pub struct Pending {
 }
 
 impl Pending {
-    pub const LIMIT: usize = 123;
+    pub const LIMIT: usize = line_format::LINE_LIMIT;
 
     pub fn empty() -> Self
         ensures shows { λ r. ⌜ viewPending r ≡ [] ⌝ }
@@ -79,7 +79,7 @@ pub fn line_end(piece: &[u8], from: usize) -> usize
 {
     let mut i = from;
     while i < piece.len() {
-        if piece[i] == 10 {
+        if piece[i] == line_format::NEWLINE {
             return i;
         }
         i += 1;

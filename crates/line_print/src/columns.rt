@@ -7,20 +7,12 @@ ghost use lib.ListN.{length, drop, take, replicate};
 ghost use Rattle.line_format.specs.Bytes.{space, digitZero, base, callWidth, numberWidth};
 ghost use Rattle.line_format.specs.Columns.{before, digitsIn, magnitude, column};
 ghost use Rattle.line_print.specs.columns.Printed.{printed};
-
-const SPACE: u8 = 32;
-
-const MINUS: u8 = 45;
-
-const DIGIT_ZERO: u8 = 48;
-
-const BASE: u64 = 10;
-
-// The columns of a refusal or 0.
-pub const REFUSAL_WIDTH: usize = 2;
-
-// The columns of every other number.
-pub const NUMBER_WIDTH: usize = 12;
+use line_format::BASE;
+use line_format::CALL_WIDTH;
+use line_format::DIGIT_ZERO;
+use line_format::MINUS;
+use line_format::NUMBER_WIDTH;
+use line_format::SPACE;
 
 // The last digit of n.
 fn digit(n: u64) -> u8
@@ -105,7 +97,7 @@ pub fn word(z: i32, out: &mut [u8])
 pub fn refusal(n: u8, out: &mut [u8])
     ensures { λ r. ⌜ now (out .exit) ≡ printed (column callWidth (pos n)) (now (out .entry)) ⌝ }
 {
-    if out.len() < REFUSAL_WIDTH {
+    if out.len() < CALL_WIDTH {
         return;
     }
     let wide = n as u64;

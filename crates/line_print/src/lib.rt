@@ -16,12 +16,18 @@ ghost use Rattle.line_print.specs.columns.Printed.{printed};
 ghost use Rattle.line_print.specs.told.Told.{numberLimit};
 ghost use Rattle.line_print.specs.Line.{lineWidth, lineOf, taken};
 use answers::Answer;
+use field::Field;
+use keys::Key;
+use line_format::CALL_WIDTH;
+use line_format::NEWLINE;
+use line_format::NUMBER_WIDTH;
 use told::Told;
 
-// Room for the line of any answer: as many numbers as one tells, and the words of the longest key.
-pub const LONGEST: usize = 423;
+// The words of the longest key.
+pub const WORDS: usize = Field::WORDS * Key::LIMIT;
 
-const NEWLINE: u8 = 10;
+// Room for the line of any answer: as many numbers as one tells, the words of the longest key, and byte 10.
+pub const LONGEST: usize = CALL_WIDTH + NUMBER_WIDTH * (Told::LIMIT + WORDS) + 1;
 
 // The numbers that are told, each in its columns.
 fn print_numbers(t: Told, out: &mut [u8])
@@ -30,7 +36,7 @@ fn print_numbers(t: Told, out: &mut [u8])
 {
     let mut i: usize = 0;
     while i < t.count {
-        let at = columns::NUMBER_WIDTH * i;
+        let at = NUMBER_WIDTH * i;
         columns::number(t.numbers[i], &mut out[at..]);
         i += 1;
     }
@@ -43,7 +49,7 @@ fn print_words(ws: &[i32], n: usize, out: &mut [u8])
 {
     let mut i: usize = 0;
     while i < n {
-        let at = columns::NUMBER_WIDTH * i;
+        let at = NUMBER_WIDTH * i;
         columns::word(ws[i], &mut out[at..]);
         i += 1;
     }
@@ -54,11 +60,11 @@ fn has_room(count: usize, n: usize, room: usize) -> bool
     requires { ⌜ count ≤ numberLimit ⌝ }
     ensures { λ r. ⌜ r ≡ leb (lineWidth count n) room ⌝ }
 {
-    let fixed = columns::REFUSAL_WIDTH + columns::NUMBER_WIDTH * count + 1;
+    let fixed = CALL_WIDTH + NUMBER_WIDTH * count + 1;
     if room < fixed {
         return false;
     }
-    n <= (room - fixed) / columns::NUMBER_WIDTH
+    n <= (room - fixed) / NUMBER_WIDTH
 }
 
 // The line of what is told and the first n words; its length.
@@ -67,10 +73,10 @@ fn print_line(t: Told, words: &[i32], n: usize, out: &mut [u8]) -> usize
     ensures prints { λ r. ⌜ now (out .exit) ≡ printed (lineOf t (take n (now (words .entry)))) (now (out .entry)) ⌝ }
     ensures takes { λ r. ⌜ r ≡ lineWidth (t .count) n ⌝ }
 {
-    let at = columns::REFUSAL_WIDTH + columns::NUMBER_WIDTH * t.count;
-    let end = at + columns::NUMBER_WIDTH * n;
+    let at = CALL_WIDTH + NUMBER_WIDTH * t.count;
+    let end = at + NUMBER_WIDTH * n;
     columns::refusal(t.refusal, out);
-    print_numbers(t, &mut out[columns::REFUSAL_WIDTH..]);
+    print_numbers(t, &mut out[CALL_WIDTH..]);
     print_words(words, n, &mut out[at..]);
     out[end] = NEWLINE;
     end + 1

@@ -102,7 +102,7 @@ pub fn feed(s: Server, piece: &[u8], out: &mut [u8]) -> Server
                 continue;
             }
         };
-        let mut words = [0i32; line_answer::WORDS];
+        let mut words = [0i32; line_print::WORDS];
         let mut shown = Marked::nothing();
         let a = match c {
             Call::Read(s, k) => {
