@@ -2,7 +2,7 @@
 ghost use mathlib.Core.Path.{_≡_};
 ghost use mathlib.Core.Bool.{true, not, cond, _&&_, _||_};
 ghost use Prim.Native.Nat.{_+_};
-ghost use lib.Dec.{eqb, leb, ltb};
+ghost use lib.Dec.{eqb, ltb};
 ghost use Rattle.rules.specs.Limits.{documentCount};
 ghost use Rattle.rules.specs.Lists.{any};
 ghost use Rattle.rules.specs.Tables.{isHeld, isExclusive, hasLapsed, documents, doomedSession, remade};
@@ -18,17 +18,7 @@ use changes::Changes;
 use changes::Update;
 use keys::Key;
 
-// What began at tick t is k ticks old when the clock reaches t + k.
-fn ended(t: u64, k: u64, clock: u64) -> bool
-    ensures { λ r. ⌜ r ≡ leb (t + k) clock ⌝ }
-{
-    if clock < k {
-        return false;
-    }
-    t <= clock - k
-}
-
-// How many ticks after the begin a grant at now comes, as many as 16 bits hold.
+// How many ticks after the begin a grant at now comes, as far as one is kept.
 fn since(begun: u64, now: u64) -> u16
     ensures { λ r. ⌜ r ≡ since begun now ⌝ }
 {
@@ -36,8 +26,8 @@ fn since(begun: u64, now: u64) -> u16
         return 0;
     }
     let ticks = now - begun;
-    if 65535 <= ticks {
-        return 65535;
+    if Session::LAST_GRANT as u64 <= ticks {
+        return Session::LAST_GRANT;
     }
     ticks as u16
 }
@@ -55,9 +45,10 @@ pub struct Session {
 impl Session {
     pub const DOCUMENTS: usize = docset::DOCUMENTS as usize;
 
-    pub const LEASE_TICKS: u64 = 300;
-
     pub const LIFE_TICKS: u64 = 1000;
+
+    // The last tick after the begin that is kept of a grant: no session lives so long.
+    pub const LAST_GRANT: u16 = 65535;
 
     // Doomed, without leases and changes: what is left of a session, or of none.
     fn bare(number: u32) -> Self
@@ -272,12 +263,12 @@ impl Session {
     fn any_lapsed(self, clock: u64) -> bool
         ensures { λ r. ⌜ r ≡ any (λ d. hasLapsed clock (viewSession self .lease d)) documents ⌝ }
     {
-        if !ended(self.begun, Self::LEASE_TICKS, clock) {
+        if !clock::ended(self.begun, clock::LEASE_TICKS, clock) {
             return false;
         }
         let held = self.held();
         let granted = self.granted;
-        docset::any_over(held, granted, clock - self.begun - Self::LEASE_TICKS)
+        docset::any_over(held, granted, clock - self.begun - clock::LEASE_TICKS)
     }
 
     // A lease of it lapses, or its own life.
@@ -287,7 +278,7 @@ impl Session {
         if self.doomed {
             return false;
         }
-        if ended(self.begun, Self::LIFE_TICKS, clock) {
+        if clock::ended(self.begun, Self::LIFE_TICKS, clock) {
             return true;
         }
         self.any_lapsed(clock)

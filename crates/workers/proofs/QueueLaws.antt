@@ -1,10 +1,8 @@
 -- The queue lease through its view: one law for each way out of a method.
-use Prim.Native.Nat.{ℕ, _+_, _-_, _<_, _≤_}
-use native.Mathlib.Omega.{arith}
+use Prim.Native.Nat.{ℕ, _+_}
 use mathlib.Core.Path.{_≡_, _∙_}
 use mathlib.Core.Bool.{Bool, true, false, not, _&&_}
 use lib.Dec.{eqb, leb}
-use borrow.Author.Tests.{le-leb, lt-leb}
 use Rattle.rules.specs.Limits.{leaseTicks}
 use Rattle.rules.specs.Tables as M
 use Rattle.rules.specs.Effects.{lapsedQueue, ended, orphaned}
@@ -19,19 +17,14 @@ module _ (q : Queue) where
   leased-is = byCase (q .live) (λ e. rw e) (λ e. rw e)
 
   -- ── the clock ──
-  pub lapse-not : (clock : ℕ) → leb (q .since + leaseTicks) clock ≡ false → viewQueue q ≡ lapsedQueue clock (viewQueue q)
-  unfolding viewQueue
-  lapse-not clock e = byCase (q .live) (λ l. rw (l, e)) (λ l. rw l)
+  module _ (clock : ℕ) (t : Bool) (a : t ≡ leb (q .since + leaseTicks) clock) where
+    pub lapse-live : t ≡ false → viewQueue q ≡ lapsedQueue clock (viewQueue q)
+    unfolding viewQueue
+    lapse-live e = byCase (q .live) (λ l. rw (l, ← a, e)) (λ l. rw l)
 
-  pub lapse-young : (clock : ℕ) → clock < leaseTicks → viewQueue q ≡ lapsedQueue clock (viewQueue q)
-  lapse-young clock h = lapse-not clock (lt-leb (q .since + leaseTicks) clock (omega arith))
-
-  pub lapse-live : (clock : ℕ) → leaseTicks ≤ clock → clock - leaseTicks < q .since → viewQueue q ≡ lapsedQueue clock (viewQueue q)
-  lapse-live clock h k = lapse-not clock (lt-leb (q .since + leaseTicks) clock (omega arith))
-
-  pub lapse-over : (clock : ℕ) (r : Queue) → leaseTicks ≤ clock → q .since ≤ clock - leaseTicks → viewQueue r ≡ M.idle → viewQueue r ≡ lapsedQueue clock (viewQueue q)
-  unfolding viewQueue
-  lapse-over clock r h k e = e ∙ byCase (q .live) (λ l. rw (l, le-leb (q .since + leaseTicks) clock (omega arith))) (λ l. rw l)
+    pub lapse-over : (r : Queue) → t ≡ true → viewQueue r ≡ M.idle → viewQueue r ≡ lapsedQueue clock (viewQueue q)
+    unfolding viewQueue
+    lapse-over r e h = h ∙ byCase (q .live) (λ l. rw (l, ← a, e)) (λ l. rw l)
 
   -- ── whose it is ──
   pub owned-yes : (w : ℕ) → q .owned ≡ true → eqb w (q .owner) ≡ M.ownedBy w (ownerOf q)

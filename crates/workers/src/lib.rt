@@ -98,8 +98,6 @@ pub struct Queue {
 }
 
 impl Queue {
-    pub const LEASE_TICKS: u64 = 300;
-
     pub fn empty() -> Self
         ensures shows { λ r. ⌜ viewQueue r ≡ idle ⌝ }
         ensures form { λ r. ⌜ queueForm r ≡ true ⌝ }
@@ -135,10 +133,7 @@ impl Queue {
         ensures shows { λ r. ⌜ viewQueue r ≡ lapsedQueue clock (viewQueue self) ⌝ }
         ensures form { λ r. ⌜ (queueForm self ≡ true → queueForm r ≡ true) ⌝ }
     {
-        if clock < Self::LEASE_TICKS {
-            return self;
-        }
-        if self.since <= clock - Self::LEASE_TICKS {
+        if clock::ended(self.since, clock::LEASE_TICKS, clock) {
             return Self::empty();
         }
         self

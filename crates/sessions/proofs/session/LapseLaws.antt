@@ -1,5 +1,5 @@
 -- Lapses of a session through its view: one law for each way out of a method.
-use Prim.Native.Nat.{ℕ, _+_, _-_, _<_, _≤_}
+use Prim.Native.Nat.{ℕ, _+_, _-_, _≤_}
 use native.Mathlib.Omega.{arith}
 use mathlib.Core.Path.{_≡_, refl, sym, _∙_, ap, fun-ext}
 use mathlib.Core.Bool.{Bool, true, false, not, cond, _&&_}
@@ -16,16 +16,6 @@ use Rattle.docset.specs.Sets.{docs}
 use Rattle.docset.proofs.SetLaws.{docs-none}
 use Rattle.sessions.specs.declared.session.Session.{Session}
 use Rattle.sessions.specs.session.View.{leases, ticks, viewSession, viewSlot}
-
-module _ (t k clock : ℕ) where
-  pub ended-early : clock < k → false ≡ leb (t + k) clock
-  ended-early h = sym (lt-leb (t + k) clock (omega arith))
-
-  pub ended-late : k ≤ clock → leb t (clock - k) ≡ leb (t + k) clock
-  ended-late h =
-      byCase (leb t (clock - k))
-      (λ e. let a = leb-true t (clock - k) e in e ∙ sym (le-leb (t + k) clock (omega arith)))
-      (λ e. let a = leb-false t (clock - k) e in e ∙ sym (lt-leb (t + k) clock (omega arith)))
 
 -- ── one lease ──
 -- a held lease has lapsed by its tick

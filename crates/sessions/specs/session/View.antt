@@ -43,8 +43,11 @@ unfoldable pub withSharedOne : ℕ → ℕ → M.Session → M.Session
 withSharedOne now d s = cond (ltb d documentCount) (M.withLeases (λ e. cond (eqb e d) (orShared now (s .lease e)) (s .lease e)) s) s
 
 -- ── the tick that is kept of a grant at now: 16 bits of ticks since the begin, which is now itself in a session's life (proofs/Granting) ──
+abbrev pub lastGrant : ℕ
+lastGrant = 65535
+
 abbrev pub since : ℕ → ℕ → ℕ
-since begun now = min (now - begun) 65535
+since begun now = min (now - begun) lastGrant
 
 abbrev pub granting : ℕ → M.Session → ℕ
 granting now s = s .begun + since (s .begun) now

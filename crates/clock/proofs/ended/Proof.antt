@@ -1,7 +1,7 @@
 -- `ended` meets its contract.
-use Rattle.sessions.proofs.session.LapseLaws.{ended-early, ended-late}
-use Rattle.sessions.proofs.session.ended.Statement.{statement}
-use Rattle.sessions.proofs.session.ended.Tie as tie
+use Rattle.clock.proofs.Laws.{ended-early, ended-late}
+use Rattle.clock.proofs.ended.Statement.{statement}
+use Rattle.clock.proofs.ended.Tie as tie
 
 returns : tie.Need-returns
 returns c = search ended-early
