@@ -2,11 +2,13 @@
 use mathlib.Core.Path.{_≡_, refl, _∙_}
 use mathlib.Core.Bool.{Bool, true, false, cond, not}
 use mathlib.Core.List.{List, [], _∷_}
-use Prim.Native.Nat.{ℕ}
+use Prim.Native.Nat.{ℕ, _≤_, _<_}
+use native.Mathlib.Omega.{arith}
 use lib.IntN.{ℤ}
 use lib.ListN.{length, take}
-use Rattle.rules.specs.Limits.{sweepLimit}
-use Rattle.rules.specs.Lists.{has, keep}
+use borrow.Author.Tests.{lt-ltb, le-ltb}
+use Rattle.rules.specs.Limits.{rowLimit, sweepLimit}
+use Rattle.rules.specs.Lists.{has, keep, pushed}
 use Rattle.rules.specs.Refusals.{storeAway, _⇒_}
 use Rattle.rules.specs.Tables as M
 use Rattle.rules.specs.Calls.{Sweep, refused, fine}
@@ -14,13 +16,13 @@ use Rattle.rules.specs.Calls as C
 use Rattle.rules.specs.Conditions.{conditions}
 use Rattle.rules.specs.Effects.{swept}
 use Rattle.rules.specs.Step.{accepted}
+use Rattle.rules.proofs.Laws.{byCase}
 use Rattle.lists.specs.Find.{fold}
 use Rattle.lists.specs.Table.{counted}
 use Rattle.lists.proofs.Views.{keepRoom, first-kept}
 use Rattle.promises.specs.Promise.{chosen, result, Performs}
 use Rattle.promises.proofs.Telling.{refuses, accepts, none-held, left-accepted}
-use Rattle.rows.specs.View.{viewRows, viewPicks, rowsForm}
-use Rattle.rows.specs.declared.Picks.{Picks}
+use Rattle.rows.specs.View.{viewRows, rowsForm}
 use Rattle.rows.specs.declared.Rows.{Rows}
 use Rattle.buffer.specs.View.{viewBuffer}
 use Rattle.workers.specs.View.{viewHands}
@@ -38,14 +40,24 @@ module _ (l : List M.Batch) (hands : ℕ → M.Hand) (n : ℕ) where
   pub goes-unheld : (t : Bool) → t ≡ M.isBuffered n l → t ≡ false → (u : Bool) → u ≡ M.anyHand hands n → not u ≡ mayGo l hands n
   goes-unheld t e h u g = rw (← e, h, ← g) refl
 
-  module _ (t : Bool) (e : t ≡ mayGo l hands n) (x y : List ℕ) where
-    pub one-picked : t ≡ true → (r : List ℕ) → r ≡ x → r ≡ cond (mayGo l hands n) x y
-    one-picked h r g = g ∙ rw (← e, h) refl
+  module _ (x : List ℕ) where
+    abbrev Picked : List ℕ → Type 0
+    Picked r = r ≡ cond (mayGo l hands n) (pushed sweepLimit x n) x
 
-    pub one-left : t ≡ false → y ≡ cond (mayGo l hands n) x y
-    one-left h = rw (← e, h) refl
+    pub all-picked : (k : ℕ) → k ≡ length x → sweepLimit ≤ k → Picked x
+    unfolding pushed
+    all-picked k ek h = byCase (mayGo l hands n) (λ e. rw (e, le-ltb (length x) sweepLimit (omega arith))) (λ e. rw e)
 
-pub pick-start : (rows : Rows) (p : ℕ → Bool) (picks : Picks) → viewPicks picks ≡ [] → take sweepLimit (keep p (viewRows rows)) ≡ fold (keepRoom sweepLimit p) (viewPicks picks) (counted (λ n. n) (rows .count) (rows .numbers))
+    module _ (t : Bool) (e : t ≡ mayGo l hands n) where
+      -- the sweep's room is less than a table's
+      pub one-picked : (k : ℕ) → k ≡ length x → k < sweepLimit → t ≡ true → (r : List ℕ) → r ≡ pushed rowLimit x n → Picked r
+      unfolding pushed
+      one-picked k ek h u r g = g ∙ rw (lt-ltb (length x) rowLimit (omega arith), ← e, u, lt-ltb (length x) sweepLimit (omega arith))
+
+      pub one-left : t ≡ false → Picked x
+      one-left u = rw (← e, u) refl
+
+pub pick-start : (rows : Rows) (p : ℕ → Bool) (picks : Rows) → viewRows picks ≡ [] → take sweepLimit (keep p (viewRows rows)) ≡ fold (keepRoom sweepLimit p) (viewRows picks) (counted (λ n. n) (rows .count) (rows .numbers))
 unfolding viewRows
 pick-start rows p picks e = first-kept sweepLimit p (counted (λ n. n) (rows .count) (rows .numbers)) ∙ rw e refl
 
@@ -58,14 +70,14 @@ module _ (p : Plant) (lent : List ℤ) (kept : keptPlant p ≡ true) where
   unfolding conditions viewPlant _⇒_
   away h = refuses Sweep lent (chosen (viewPlant p)) (viewPlant p) _ (rw h refl)
 
-  pub picks-told : not (p .near) ≡ false → (l : Picks) → viewPicks l ≡ take sweepLimit (keep (mayGo (viewBuffer (p .buffer)) (viewHands (p .hands))) (viewRows (p .rows)))
-      → (n : ℕ) → n ≡ length (viewPicks l) → Answered (fine (n ∷ []))
+  pub picks-told : not (p .near) ≡ false → (l : Rows) → viewRows l ≡ take sweepLimit (keep (mayGo (viewBuffer (p .buffer)) (viewHands (p .hands))) (viewRows (p .rows)))
+      → (n : ℕ) → n ≡ length (viewRows l) → Answered (fine (n ∷ []))
   unfolding conditions viewPlant _⇒_ accepted chosen
   picks-told h l el n en = rw (en, el) (accepts Sweep lent (chosen (viewPlant p)) (viewPlant p) (rw h refl))
 
 -- ── the plant left ──
-module _ (p : Plant) (l : Picks) (el : viewPicks l ≡ take sweepLimit (keep (mayGo (viewBuffer (p .buffer)) (viewHands (p .hands))) (viewRows (p .rows))))
-    (r : Rows) (er : viewRows r ≡ keep (λ n. not (has n (viewPicks l))) (viewRows (p .rows))) where
+module _ (p : Plant) (l : Rows) (el : viewRows l ≡ take sweepLimit (keep (mayGo (viewBuffer (p .buffer)) (viewHands (p .hands))) (viewRows (p .rows))))
+    (r : Rows) (er : viewRows r ≡ keep (λ n. not (has n (viewRows l))) (viewRows (p .rows))) where
   pub removed : Performs Sweep p (withRows p r)
   unfolding conditions viewPlant accepted swept chosen
   removed kept lent h =

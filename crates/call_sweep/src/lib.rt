@@ -7,7 +7,7 @@ ghost use lib.ListN.{take};
 ghost use Rattle.rules.specs.Limits.{sweepLimit};
 ghost use Rattle.rules.specs.Lists.{keep, pushed};
 ghost use Rattle.rules.specs.Calls.{Sweep};
-ghost use Rattle.rows.specs.View.{viewRows, viewPicks};
+ghost use Rattle.rows.specs.View.{viewRows};
 ghost use Rattle.plant.specs.View.{plantForm};
 ghost use Rattle.plant.specs.With.{withRows};
 ghost use Rattle.answers.specs.Own.{isAnswerOf};
@@ -19,9 +19,11 @@ use answers::Answer;
 use answers::Refusal;
 use buffer::Buffer;
 use plant::Plant;
-use rows::Picks;
 use rows::Rows;
 use workers::Hands;
+
+// The most rows that a sweep removes.
+const SWEEP_LIMIT: u8 = 16;
 
 // The session is neither buffered nor in a hand.
 fn may_go(buffer: Buffer, hands: Hands, n: u32) -> bool
@@ -33,10 +35,13 @@ fn may_go(buffer: Buffer, hands: Hands, n: u32) -> bool
     !hands.any_holds(n)
 }
 
-// One more, if it may go and there is room.
-fn pick_one(picks: Picks, buffer: Buffer, hands: Hands, n: u32) -> Picks
-    ensures { λ r. ⌜ viewPicks r ≡ cond (mayGo (viewBuffer buffer) (viewHands hands) n) (pushed sweepLimit (viewPicks picks) n) (viewPicks picks) ⌝ }
+// One more, if it may go and the sweep has not picked all that it removes.
+fn pick_one(picks: Rows, buffer: Buffer, hands: Hands, n: u32) -> Rows
+    ensures { λ r. ⌜ viewRows r ≡ cond (mayGo (viewBuffer buffer) (viewHands hands) n) (pushed sweepLimit (viewRows picks) n) (viewRows picks) ⌝ }
 {
+    if SWEEP_LIMIT <= picks.len() {
+        return picks;
+    }
     if may_go(buffer, hands, n) {
         return picks.push(n);
     }
@@ -44,11 +49,11 @@ fn pick_one(picks: Picks, buffer: Buffer, hands: Hands, n: u32) -> Picks
 }
 
 // The first rows that may go.
-fn pick(rows: Rows, buffer: Buffer, hands: Hands) -> Picks
-    ensures { λ r. ⌜ viewPicks r ≡ take sweepLimit (keep (mayGo (viewBuffer buffer) (viewHands hands)) (viewRows rows)) ⌝ }
+fn pick(rows: Rows, buffer: Buffer, hands: Hands) -> Rows
+    ensures { λ r. ⌜ viewRows r ≡ take sweepLimit (keep (mayGo (viewBuffer buffer) (viewHands hands)) (viewRows rows)) ⌝ }
 {
     let count = rows.count as usize;
-    let mut picks = Picks::empty();
+    let mut picks = Rows::empty();
     let mut i: usize = 0;
     while i < Rows::LIMIT {
         if count <= i {

@@ -4,6 +4,7 @@ use mathlib.Core.Path.{_≡_, sym, _∙_}
 use mathlib.Core.Bool.{true}
 use lib.Dec.{eqb}
 use borrow.Author.Tests.{eqb-true}
+use Rattle.rules.specs.Limits.{rowLimit}
 use Rattle.lists.proofs.Forms.{table-unique}
 use Rattle.rows.specs.View.{viewRows, rowsForm}
 use Rattle.rows.specs.declared.Rows.{Rows}
@@ -16,4 +17,4 @@ unfolding viewRows rowsForm
 rows-unique a b f g e = λ i. record { count = both .0 i; numbers = both .1 i }
   where
     both : (a .count ≡ b .count) × (a .numbers ≡ b .numbers)
-    both = table-unique 48 (λ x. true) (λ x. eqb x 0) (λ x. x) (λ x y u v h. h) zeros 0 (a .count) (b .count) (a .numbers) (b .numbers) f g e
+    both = table-unique rowLimit (λ x. true) (λ x. eqb x 0) (λ x. x) (λ x y u v h. h) zeros 0 (a .count) (b .count) (a .numbers) (b .numbers) f g e

@@ -1,18 +1,11 @@
--- Rows and picks as lists of session numbers, for every value of the structs, and their one form: unused entries are 0.
+-- Rows as a list of session numbers, for every value of the struct, and their one form: unused entries are 0.
 use Prim.Native.Nat.{ℕ}
 use mathlib.Core.Bool.{Bool, true}
 use mathlib.Core.List.{List}
 use lib.Dec.{eqb}
-use Rattle.rules.specs.Limits.{rowLimit, sweepLimit}
+use Rattle.rules.specs.Limits.{rowLimit}
 use Rattle.lists.specs.Table.{counted, tableForm}
-use Rattle.rows.specs.declared.Picks.{Picks}
 use Rattle.rows.specs.declared.Rows.{Rows}
-
-unfoldable pub viewPicks : Picks → List ℕ
-viewPicks t = counted (λ n. n) (t .count) (t .numbers)
-
-unfoldable pub picksForm : Picks → Bool
-picksForm t = tableForm sweepLimit (λ n. true) (λ n. eqb n 0) (t .count) (t .numbers)
 
 unfoldable pub viewRows : Rows → List ℕ
 viewRows t = counted (λ n. n) (t .count) (t .numbers)

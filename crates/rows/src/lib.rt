@@ -1,12 +1,12 @@
-// The store's rows of applied sessions, and the rows that a sweep picks.
+// The store's rows of applied sessions, all of them or those that a sweep picks.
 ghost use mathlib.Core.Path.{_≡_};
 ghost use mathlib.Core.Bool.{true, not, cond};
 ghost use mathlib.Core.List.{[]};
 ghost use lib.Dec.{eqb};
 ghost use lib.ListN.{length};
-ghost use Rattle.rules.specs.Limits.{rowLimit, sweepLimit};
+ghost use Rattle.rules.specs.Limits.{rowLimit};
 ghost use Rattle.rules.specs.Lists.{has, keep, pushed};
-ghost use Rattle.rows.specs.View.{viewRows, viewPicks, rowsForm, picksForm};
+ghost use Rattle.rows.specs.View.{viewRows, rowsForm};
 
 // Two session numbers are equal.
 fn same(a: u32, b: u32) -> bool
@@ -15,70 +15,7 @@ fn same(a: u32, b: u32) -> bool
     a == b
 }
 
-// The rows that a sweep removes.
-pub struct Picks {
-    pub count: u8,
-    pub numbers: [u32; Picks::LIMIT],
-}
-
-impl Picks {
-    pub const LIMIT: usize = 16;
-
-    pub fn empty() -> Self
-        ensures shows { λ r. ⌜ viewPicks r ≡ [] ⌝ }
-        ensures form { λ r. ⌜ picksForm r ≡ true ⌝ }
-    {
-        Self {
-            count: 0,
-            numbers: [0; Picks::LIMIT],
-        }
-    }
-
-    pub fn has(self, n: u32) -> bool
-        ensures { λ r. ⌜ r ≡ has n (viewPicks self) ⌝ }
-    {
-        let count = self.count as usize;
-        let mut i: usize = 0;
-        while i < Picks::LIMIT {
-            if count <= i {
-                return false;
-            }
-            let picked = self.numbers[i];
-            if same(n, picked) {
-                return true;
-            }
-            i += 1;
-        }
-        false
-    }
-
-    // One more, if there is room.
-    pub fn push(self, n: u32) -> Self
-        ensures shows { λ r. ⌜ viewPicks r ≡ pushed sweepLimit (viewPicks self) n ⌝ }
-        ensures form { λ r. ⌜ (picksForm self ≡ true → picksForm r ≡ true) ⌝ }
-    {
-        let at = self.count as usize;
-        if Picks::LIMIT <= at {
-            return self;
-        }
-        let mut picks = self;
-        picks.numbers[at] = n;
-        picks.count = self.count + 1;
-        picks
-    }
-
-    pub fn len(self) -> u8
-        ensures { λ r. ⌜ r ≡ length (viewPicks self) ⌝ }
-    {
-        let n = self.count;
-        if Self::LIMIT <= n as usize {
-            return Self::LIMIT as u8;
-        }
-        n
-    }
-}
-
-// The rows in the store: the numbers of applied sessions, in the order in which they came to stand.
+// Rows in the store: the numbers of applied sessions, in the order in which they came to stand.
 pub struct Rows {
     pub count: u8,
     pub numbers: [u32; Rows::LIMIT],
@@ -140,8 +77,8 @@ impl Rows {
         n
     }
 
-    fn push_unless(self, n: u32, picks: Picks) -> Self
-        ensures shows { λ r. ⌜ viewRows r ≡ cond (not (has n (viewPicks picks))) (pushed rowLimit (viewRows self) n) (viewRows self) ⌝ }
+    fn push_unless(self, n: u32, picks: Rows) -> Self
+        ensures shows { λ r. ⌜ viewRows r ≡ cond (not (has n (viewRows picks))) (pushed rowLimit (viewRows self) n) (viewRows self) ⌝ }
         ensures form { λ r. ⌜ (rowsForm self ≡ true → rowsForm r ≡ true) ⌝ }
     {
         if picks.has(n) {
@@ -151,8 +88,8 @@ impl Rows {
     }
 
     // The rows that are not picked.
-    pub fn without(self, picks: Picks) -> Self
-        ensures shows { λ r. ⌜ viewRows r ≡ keep (λ n. not (has n (viewPicks picks))) (viewRows self) ⌝ }
+    pub fn without(self, picks: Rows) -> Self
+        ensures shows { λ r. ⌜ viewRows r ≡ keep (λ n. not (has n (viewRows picks))) (viewRows self) ⌝ }
         ensures form { λ r. ⌜ rowsForm r ≡ true ⌝ }
     {
         let count = self.count as usize;

@@ -5,7 +5,7 @@ use lib.ListN.{take}
 use Rattle.rules.specs.Limits.{rowLimit, sweepLimit}
 use Rattle.rules.specs.Lists.{keep}
 use Rattle.lists.proofs.Views.{Working, work-start, work-next, work-end, work-past, keepRoom}
-use Rattle.rows.specs.View.{viewRows, viewPicks}
+use Rattle.rows.specs.View.{viewRows}
 use Rattle.buffer.specs.View.{viewBuffer}
 use Rattle.workers.specs.View.{viewHands}
 use Rattle.call_sweep.specs.MayGo.{mayGo}
@@ -16,7 +16,7 @@ use Rattle.call_sweep.proofs.pick.Tie as tie
 abbrev Inv-loop : tie.InvT-loop
 Inv-loop buffer hands rows count picks₀ i₀ picks i =
     Working (λ n. n) (keepRoom sweepLimit (mayGo (viewBuffer buffer) (viewHands hands))) count rowLimit (rows .numbers)
-    (take sweepLimit (keep (mayGo (viewBuffer buffer) (viewHands hands)) (viewRows rows))) (viewPicks picks) i
+    (take sweepLimit (keep (mayGo (viewBuffer buffer) (viewHands hands)) (viewRows rows))) (viewRows picks) i
 
 abbrev μ-loop : tie.MeasureT-loop
 μ-loop buffer hands rows count picks₀ i₀ picks i = rowLimit - i

@@ -3,6 +3,7 @@ use borrow.Author.Needs.{needs}
 use Prim.Native.Nat.{_-_}
 use mathlib.Core.Bool.{true, false}
 use lib.Dec.{eqb}
+use Rattle.rules.specs.Limits.{rowLimit}
 use Rattle.rules.specs.Lists.{has}
 use Rattle.lists.proofs.Views.{Seeking, seek-start, seek-hit, seek-next, seek-end, seek-past}
 use Rattle.rows.specs.View.{viewRows}
@@ -10,10 +11,10 @@ use Rattle.rows.proofs.Rows.has.Statement.{statement}
 use Rattle.rows.proofs.Rows.has.Tie as tie
 
 abbrev Inv-loop : tie.InvT-loop
-Inv-loop n self count i₀ i = Seeking (λ m. m) (λ m. eqb n m) (λ m. true) false count 48 (self .numbers) (has n (viewRows self)) i
+Inv-loop n self count i₀ i = Seeking (λ m. m) (λ m. eqb n m) (λ m. true) false count rowLimit (self .numbers) (has n (viewRows self)) i
 
 abbrev μ-loop : tie.MeasureT-loop
-μ-loop n self count i₀ i = 48 - i
+μ-loop n self count i₀ i = rowLimit - i
 
 cast-count : tie.Need-cast-count Inv-loop μ-loop
 cast-count c = search needs

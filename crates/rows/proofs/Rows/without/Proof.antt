@@ -3,19 +3,20 @@ use borrow.Author.Needs.{needs}
 use Prim.Native.Nat.{_-_}
 use mathlib.Core.Path.{_≡_}
 use mathlib.Core.Bool.{true, not}
+use Rattle.rules.specs.Limits.{rowLimit}
 use Rattle.rules.specs.Lists.{has, keep}
 use Rattle.lists.proofs.Views.{Keeping, keep-start, keep-next, keep-end, keep-past}
-use Rattle.rows.specs.View.{viewPicks, viewRows, rowsForm}
+use Rattle.rows.specs.View.{viewRows, rowsForm}
 use Rattle.rows.proofs.Rows.without.Statement.{statement}
 use Rattle.rows.proofs.Rows.without.Tie as tie
 
 abbrev Inv-loop : tie.InvT-loop
 Inv-loop picks self count kept₀ i₀ kept i =
-    Keeping (λ n. n) (λ n. not (has n (viewPicks picks))) count 48 (self .numbers) (keep (λ n. not (has n (viewPicks picks))) (viewRows self)) (viewRows kept) i
+    Keeping (λ n. n) (λ n. not (has n (viewRows picks))) count rowLimit (self .numbers) (keep (λ n. not (has n (viewRows picks))) (viewRows self)) (viewRows kept) i
     × (rowsForm kept ≡ true)
 
 abbrev μ-loop : tie.MeasureT-loop
-μ-loop picks self count kept₀ i₀ kept i = 48 - i
+μ-loop picks self count kept₀ i₀ kept i = rowLimit - i
 
 cast-count : tie.Need-cast-count Inv-loop μ-loop
 cast-count c = search needs
