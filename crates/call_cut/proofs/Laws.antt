@@ -29,7 +29,8 @@ use Rattle.workers.specs.declared.Hands.{Hands}
 use Rattle.workers.specs.declared.Queue.{Queue}
 use Rattle.plant.specs.View.{viewPlant, keptPlant, plantForm}
 use Rattle.plant.specs.declared.Plant.{Plant}
-use Rattle.promises.proofs.Worker.{left-form}
+use Rattle.plant.proofs.Formed.{form-with-hands, form-with-queue}
+use Rattle.call_cut.specs.Left.{left}
 
 module _ (p : Plant) (z : ℤ) (fits : SFits w64 z) (w : ℕ) (e : w ≡ cond (below (held z) workerCount) (natOf (held z)) workerCount) (lent : List ℤ) (kept : keptPlant p ≡ true) where
   abbrev Answered : C.Answer → Type 0
@@ -48,7 +49,10 @@ module _ (p : Plant) (z : ℤ) (fits : SFits w64 z) (w : ℕ) (e : w ≡ cond (b
     (hand : Hand) (eh : viewHand hand ≡ empty)
     (hs : Hands) (ehs : viewHands hs ≡ cond (ltb w workerCount) (override (viewHands (p .hands)) w (viewHand hand)) (viewHands (p .hands)))
     (q : Queue) (eq : viewQueue q ≡ orphaned w (viewQueue (p .queue))) where
-  pub emptied : Performs (Cut z) p (record { store = p .store; keys = p .keys; cache = p .cache; sessions = p .sessions; buffer = p .buffer; rows = p .rows; hands = hs; queue = q; clock = p .clock; near = p .near; next = p .next })
+  abbrev withCut : Plant
+  withCut = left p (record { hands = hs; queue = q })
+
+  pub emptied : Performs (Cut z) p withCut
   unfolding conditions viewPlant accepted cut
   emptied kept lent h =
       let m = none-held (Cut z) lent (chosen (viewPlant p)) (viewPlant p) _ refl h in
@@ -57,5 +61,5 @@ module _ (p : Plant) (z : ℤ) (fits : SFits w64 z) (w : ℕ) (e : w ≡ cond (b
       ∙ left-accepted (Cut z) lent (chosen (viewPlant p)) (viewPlant p) m
 
   pub emptied-form : (handsForm (p .hands) ≡ true → handForm hand ≡ true → handsForm hs ≡ true) → handForm hand ≡ true → (queueForm (p .queue) ≡ true → queueForm q ≡ true) → plantForm p ≡ true
-      → plantForm (record { store = p .store; keys = p .keys; cache = p .cache; sessions = p .sessions; buffer = p .buffer; rows = p .rows; hands = hs; queue = q; clock = p .clock; near = p .near; next = p .next }) ≡ true
-  emptied-form fh ff fq = left-form p (p .buffer) hs q (λ f. f) (λ f. fh f ff) fq
+      → plantForm withCut ≡ true
+  emptied-form fh ff fq f = form-with-queue _ q fq (form-with-hands p hs (λ x. fh x ff) f)

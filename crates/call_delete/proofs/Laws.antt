@@ -33,7 +33,9 @@ use Rattle.buffer.specs.Form.{bufferForm}
 use Rattle.buffer.specs.declared.Buffer.{Buffer}
 use Rattle.plant.specs.View.{viewPlant, keptPlant, plantForm}
 use Rattle.plant.specs.declared.Plant.{Plant}
-use Rattle.promises.proofs.Worker.{hand-at, left-form}
+use Rattle.plant.proofs.Formed.{form-with-buffer, form-with-hands, form-with-queue}
+use Rattle.call_delete.specs.Left.{left}
+use Rattle.promises.proofs.Worker.{hand-at}
 
 -- only a full hand has a reply
 full-replied : (h : M.Hand) → full h && replied h ≡ replied h
@@ -67,7 +69,10 @@ module _ (p : Plant) (z : ℤ) (fits : SFits w64 z) (w : ℕ) (e : w ≡ cond (b
     (bs : Buffer) (ebs : viewBuffer bs ≡ unbuffer n (viewBuffer (p .buffer)))
     (hs : Hands) (ehs : viewHands hs ≡ cond (ltb w workerCount) (override (viewHands (p .hands)) w (viewHand hand)) (viewHands (p .hands)))
     (q : Queue) (eq : viewQueue q ≡ ended w (viewQueue (p .queue))) where
-  pub unbuffered : Performs (Delete z) p (record { store = p .store; keys = p .keys; cache = p .cache; sessions = p .sessions; buffer = bs; rows = p .rows; hands = hs; queue = q; clock = p .clock; near = p .near; next = p .next })
+  abbrev unheld : Plant
+  unheld = left p (record { buffer = bs; hands = hs; queue = q })
+
+  pub unbuffered : Performs (Delete z) p unheld
   unfolding conditions viewPlant accepted deleted
   unbuffered kept lent h =
       let m = none-held (Delete z) lent (chosen (viewPlant p)) (viewPlant p) _ refl h in
@@ -77,5 +82,5 @@ module _ (p : Plant) (z : ℤ) (fits : SFits w64 z) (w : ℕ) (e : w ≡ cond (b
 
   pub unbuffered-form : (bufferForm (p .buffer) ≡ true → bufferForm bs ≡ true) → (handsForm (p .hands) ≡ true → handForm hand ≡ true → handsForm hs ≡ true) → handForm hand ≡ true
       → (queueForm (p .queue) ≡ true → queueForm q ≡ true) → plantForm p ≡ true
-      → plantForm (record { store = p .store; keys = p .keys; cache = p .cache; sessions = p .sessions; buffer = bs; rows = p .rows; hands = hs; queue = q; clock = p .clock; near = p .near; next = p .next }) ≡ true
-  unbuffered-form fb fh ff fq = left-form p bs hs q fb (λ f. fh f ff) fq
+      → plantForm unheld ≡ true
+  unbuffered-form fb fh ff fq f = form-with-queue _ q fq (form-with-hands _ hs (λ x. fh x ff) (form-with-buffer p bs fb f))

@@ -31,7 +31,9 @@ use Rattle.workers.specs.declared.Queue.{Queue}
 use Rattle.buffer.specs.View.{viewBuffer}
 use Rattle.plant.specs.View.{viewPlant, keptPlant, plantForm}
 use Rattle.plant.specs.declared.Plant.{Plant}
-use Rattle.promises.proofs.Worker.{hand-at, left-form}
+use Rattle.plant.proofs.Formed.{form-with-hands, form-with-queue}
+use Rattle.call_take.specs.Left.{left}
+use Rattle.promises.proofs.Worker.{hand-at}
 
 module _ (p : Plant) (z : ℤ) (fits : SFits w64 z) (w : ℕ) (e : w ≡ cond (below (held z) workerCount) (natOf (held z)) workerCount) (lent : List ℤ) (kept : keptPlant p ≡ true) where
   abbrev Answered : C.Answer → Type 0
@@ -71,7 +73,10 @@ module _ (p : Plant) (z : ℤ) (fits : SFits w64 z) (w : ℕ) (e : w ≡ cond (b
     (n : ℕ) (en : n ≡ oldest (viewBuffer (p .buffer))) (hand : Hand) (eh : viewHand hand ≡ holds n false)
     (hs : Hands) (ehs : viewHands hs ≡ cond (ltb w workerCount) (override (viewHands (p .hands)) w (viewHand hand)) (viewHands (p .hands)))
     (q : Queue) (eq : viewQueue q ≡ leased (some w) (p .clock)) where
-  pub in-hand : Performs (Take z) p (record { store = p .store; keys = p .keys; cache = p .cache; sessions = p .sessions; buffer = p .buffer; rows = p .rows; hands = hs; queue = q; clock = p .clock; near = p .near; next = p .next })
+  abbrev withTaken : Plant
+  withTaken = left p (record { hands = hs; queue = q })
+
+  pub in-hand : Performs (Take z) p withTaken
   unfolding conditions viewPlant accepted taken
   in-hand kept lent h =
       let m = none-held (Take z) lent (chosen (viewPlant p)) (viewPlant p) _ refl h in
@@ -80,5 +85,5 @@ module _ (p : Plant) (z : ℤ) (fits : SFits w64 z) (w : ℕ) (e : w ≡ cond (b
       ∙ left-accepted (Take z) lent (chosen (viewPlant p)) (viewPlant p) m
 
   pub in-hand-form : (handsForm (p .hands) ≡ true → handForm hand ≡ true → handsForm hs ≡ true) → handForm hand ≡ true → queueForm q ≡ true → plantForm p ≡ true
-      → plantForm (record { store = p .store; keys = p .keys; cache = p .cache; sessions = p .sessions; buffer = p .buffer; rows = p .rows; hands = hs; queue = q; clock = p .clock; near = p .near; next = p .next }) ≡ true
-  in-hand-form fh ff fq = left-form p (p .buffer) hs q (λ f. f) (λ f. fh f ff) (λ f. fq)
+      → plantForm withTaken ≡ true
+  in-hand-form fh ff fq f = form-with-queue _ q (λ x. fq) (form-with-hands p hs (λ x. fh x ff) f)
