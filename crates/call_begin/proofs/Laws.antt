@@ -23,7 +23,7 @@ use Rattle.sessions.specs.Form.{sessionsForm}
 use Rattle.sessions.specs.declared.Sessions.{Sessions}
 use Rattle.plant.specs.View.{viewPlant, keptPlant, plantForm}
 use Rattle.plant.specs.declared.Plant.{Plant}
-use Rattle.plant.proofs.Formed.{form-parts, formed}
+use Rattle.plant.proofs.Formed.{form-with-sessions, form-with-next}
 use Rattle.promises.specs.Promise.{chosen, result, Performs}
 use Rattle.promises.proofs.Telling.{refuses, accepts, none-held, left-accepted}
 use Rattle.call_begin.specs.Left.{left}
@@ -77,6 +77,4 @@ module _ (p : Plant) (t : Sessions) (et : viewSessions t ≡ pushed slotLimit (r
       ∙ left-accepted Begin lent (chosen (viewPlant p)) (viewPlant p) (none-held Begin lent (chosen (viewPlant p)) (viewPlant p) _ refl h)
 
   pub opens-form : (sessionsForm (p .sessions) ≡ true → sessionsForm t ≡ true) → plantForm p ≡ true → plantForm withBegun ≡ true
-  opens-form g f =
-      let x = form-parts p f in
-      formed _ (record { store = x .store; keys = x .keys; cache = x .cache; sessions = g (x .sessions); buffer = x .buffer; rows = x .rows; hands = x .hands; queue = x .queue })
+  opens-form g f = form-with-next _ (p .next + 1) (form-with-sessions p t g f)

@@ -32,10 +32,10 @@ use Rattle.plant.specs.View.{viewPlant, plantForm}
 use Rattle.plant.specs.With.{withSessions}
 use Rattle.plant.specs.declared.Plant.{Plant}
 use Rattle.plant.proofs.PlantLaws.{kept-parts}
+use Rattle.plant.proofs.Formed.{form-with-sessions}
 use Rattle.promises.specs.Promise.{chosen, Performs}
 use Rattle.promises.proofs.Telling.{none-held, left-accepted}
 use Rattle.promises.proofs.Numbers.{slot-is, number-is}
-use Rattle.caller.proofs.Laws.{sessions-form}
 use Rattle.call_change.proofs.Laws.{good-is, update-is}
 
 module _ (p : Plant) (z d f k v : ℤ) (fd : SFits w64 d) (ff : SFits w64 f) (fk : SFits w64 k) (fv : SFits w64 v)
@@ -75,4 +75,4 @@ module _ (p : Plant) (z d f k v : ℤ) (fd : SFits w64 d) (ff : SFits w64 f) (fk
 
 pub changes-form : (p : Plant) (t : Sessions) (c : Update) (g : Bool) → not (eqb (c .kind) 0) ≡ g → (g ≡ true → isUsed c ≡ true) → (c .kind ≡ 0 → ⊥)
     → (isUsed c ≡ true → sessionsForm (p .sessions) ≡ true → sessionsForm t ≡ true) → plantForm p ≡ true → plantForm (withSessions p t) ≡ true
-changes-form p t c g eg u h s = sessions-form p t (s (u (sym eg ∙ ap not (ne-eqb (c .kind) 0 h))))
+changes-form p t c g eg u h s = form-with-sessions p t (s (u (sym eg ∙ ap not (ne-eqb (c .kind) 0 h))))

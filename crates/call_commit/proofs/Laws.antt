@@ -43,11 +43,12 @@ use Rattle.sessions.specs.declared.Sessions.{Sessions}
 use Rattle.plant.specs.View.{viewPlant, keptPlant, plantForm}
 use Rattle.plant.specs.declared.Plant.{Plant}
 use Rattle.plant.proofs.PlantLaws.{kept-parts, cache-current}
-use Rattle.plant.proofs.Formed.{form-parts, formed}
+use Rattle.plant.proofs.Formed.{form-parts, form-with-cache, form-with-sessions, form-with-buffer}
 use Rattle.promises.specs.Promise.{chosen, result, Performs}
 use Rattle.promises.proofs.Telling.{refuses, accepts, none-held, left-accepted}
 use Rattle.promises.proofs.Numbers.{slot-is, number-is}
 use Rattle.caller.proofs.Standing.{has-slot, its-session}
+use Rattle.call_commit.specs.Left.{left}
 
 -- ── the buffer after it ──
 module _ (n : ℕ) (cs : Changes) (e : Bool) (ee : e ≡ isEmpty (viewChanges cs)) where
@@ -123,15 +124,15 @@ module _ (p : Plant) (z : ℤ) (fits : SFits w64 z) (n : ℕ) (e : n ≡ cond (b
     (b : Buffer) (eb : viewBuffer b ≡ bufferedAfter n (viewChanges (s .changes)) (viewBuffer (p .buffer)))
     (c : Cache) (ec : viewCache c ≡ map (λ x. afterChanges (viewChanges (s .changes)) (viewKeys (p .keys) (x .key)) x) (viewCache (p .cache)))
     (t : Sessions) (et : viewSessions t ≡ M.freed n (viewSessions (p .sessions))) where
-  abbrev left : Plant
-  left = record { store = p .store; keys = p .keys; cache = c; sessions = t; buffer = b; rows = p .rows; hands = p .hands; queue = p .queue; clock = p .clock; near = p .near; next = p .next }
+  abbrev withCommitted : Plant
+  withCommitted = left p (record { cache = c; sessions = t; buffer = b })
 
   -- the cached keys show the fields after the session's changes
   brought : keptPlant p ≡ true → viewCache c ≡ map (upToDate (viewKeys (p .keys)) (seen (viewPlant p) (viewChanges (s .changes)))) (viewCache (p .cache))
   unfolding viewPlant
   brought k = ec ∙ current-all (current (viewPlant p)) (viewChanges (s .changes)) (viewKeys (p .keys)) (viewCache (p .cache)) (cache-current p k)
 
-  pub commits : Performs (Commit z) p left
+  pub commits : Performs (Commit z) p withCommitted
   unfolding conditions viewPlant viewSession accepted committed
   commits k lent h =
       let m = none-held (Commit z) lent (chosen (viewPlant p)) (viewPlant p) _ refl h in
@@ -143,7 +144,7 @@ module _ (p : Plant) (z : ℤ) (fits : SFits w64 z) (n : ℕ) (e : n ≡ cond (b
       ∙ left-accepted (Commit z) lent (chosen (viewPlant p)) (viewPlant p) m
 
   pub commits-form : (sessionsForm (p .sessions) ≡ true → sessionForm s ≡ true) → (changesForm (s .changes) ≡ true → bufferForm (p .buffer) ≡ true → bufferForm b ≡ true)
-      → (cacheForm (p .cache) ≡ true → cacheForm c ≡ true) → (sessionsForm (p .sessions) ≡ true → sessionsForm t ≡ true) → plantForm p ≡ true → plantForm left ≡ true
+      → (cacheForm (p .cache) ≡ true → cacheForm c ≡ true) → (sessionsForm (p .sessions) ≡ true → sessionsForm t ≡ true) → plantForm p ≡ true → plantForm withCommitted ≡ true
   commits-form fs fb fc ft f =
-      let x = form-parts p f in
-      formed _ (record { store = x .store; keys = x .keys; cache = fc (x .cache); sessions = ft (x .sessions); buffer = fb (session-changes s (fs (x .sessions))) (x .buffer); rows = x .rows; hands = x .hands; queue = x .queue })
+      let changes = session-changes s (fs (form-parts p f .sessions)) in
+      form-with-buffer _ b (fb changes) (form-with-sessions _ t ft (form-with-cache p c fc f))

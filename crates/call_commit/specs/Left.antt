@@ -1,6 +1,7 @@
 -- The plant with the tables that a commit writes.
+use Rattle.plant.specs.With.{withCache, withSessions, withBuffer}
 use Rattle.plant.specs.declared.Plant.{Plant}
 use Rattle.call_commit.specs.declared.Left.{Left}
 
 abbrev pub left : Plant → Left → Plant
-left p r = record { store = p .store; keys = p .keys; cache = r .cache; sessions = r .sessions; buffer = r .buffer; rows = p .rows; hands = p .hands; queue = p .queue; clock = p .clock; near = p .near; next = p .next }
+left p r = withBuffer (withSessions (withCache p (r .cache)) (r .sessions)) (r .buffer)

@@ -42,7 +42,7 @@ use Rattle.cache.specs.declared.Cache.{Cache}
 use Rattle.plant.specs.View.{viewPlant, keptPlant, plantForm}
 use Rattle.plant.specs.declared.Plant.{Plant}
 use Rattle.plant.proofs.PlantLaws.{kept-parts}
-use Rattle.plant.proofs.Formed.{form-parts, formed}
+use Rattle.plant.proofs.Formed.{form-with-cache, form-with-sessions}
 use Rattle.answers.specs.View.{viewAnswer, viewMark, isRefused}
 use Rattle.answers.specs.Own.{isAnswerOf}
 use Rattle.answers.proofs.Own.{refused-own}
@@ -56,6 +56,7 @@ use Rattle.sight.specs.Sight.{sight, sightAway, atHand}
 use Rattle.call_read_shown.specs.Fields.{ownOf, byMark, shownFields}
 use Rattle.call_read_shown.specs.declared.Marked.{Marked}
 use Rattle.call_read_shown.proofs.Kept.{shown-is, cache-is}
+use Rattle.call_read.specs.Left.{left}
 use Rattle.call_read.specs.Shows.{Shows, answerBy, wordsBy, foundAnswer, foundWords}
 use Rattle.call_read.proofs.Named.{named}
 
@@ -214,8 +215,8 @@ module _ (p : Plant) (z : ℤ) (fz : SFits w64 z) (y : ℤ) (fy : SFits w64 y)
     (n : ℕ) (en : n ≡ cond (below (held z) (suc lastSession)) (natOf (held z)) 0) (k : ℕ) (ek : k ≡ cond (below (held y) keyCount) (natOf (held y)) keyCount)
     (m : Marked) (c : Cache) (ec : viewCache c ≡ cacheBy (viewMark (m .mark)) 0 (viewCached (m .fields)) (viewCache (p .cache))) (key : Key) (eq : viewKey key ≡ viewKeys (p .keys) k)
     (s : Sessions) (es : viewSessions s ≡ M.each (onlyAt n (withSharedAt (p .clock) (within (viewKey key)))) (viewSessions (p .sessions))) where
-  abbrev left : Plant
-  left = record { store = p .store; keys = p .keys; cache = c; sessions = s; buffer = p .buffer; rows = p .rows; hands = p .hands; queue = p .queue; clock = p .clock; near = p .near; next = p .next }
+  abbrev withRead : Plant
+  withRead = left p (record { cache = c; sessions = s })
 
   -- all documents of the key are among those that leases are held on
   shared-is : keptPlant p ≡ true → k < keyCount → M.session n (viewSessions (p .sessions)) .doomed ≡ false → viewSessions s ≡ M.each (onlyAt n (withShared (p .clock) (viewKeys (p .keys) k))) (viewSessions (p .sessions))
@@ -224,7 +225,7 @@ module _ (p : Plant) (z : ℤ) (fz : SFits w64 z) (y : ℤ) (fy : SFits w64 y)
       es ∙ shared-kept n (kept-parts p h .slots) d (within (viewKey key)) ∙ ap (λ (qs : List S.Place). M.each (onlyAt n (withShared (p .clock) qs)) (viewSessions (p .sessions)))
       (ap within eq ∙ within-all (viewKeys (p .keys) k) (key-places (viewPlant p) k (kept-parts p h) l))
 
-  pub leaves : Shows z y p m → Performs (Read z y) p left
+  pub leaves : Shows z y p m → Performs (Read z y) p withRead
   unfolding viewPlant accepted afterRead
   leaves shows h lent i =
       let e = named p z fz n en y fy k ek h lent in
@@ -233,7 +234,6 @@ module _ (p : Plant) (z : ℤ) (fz : SFits w64 z) (y : ℤ) (fy : SFits w64 y)
       ∙ left-accepted (Read (pos n) (pos k)) lent (chosen (viewPlant p)) (viewPlant p) none
       ∙ ap (λ (x : C.Result). x .plant) (sym e)
 
-  pub leaves-form : (cachedForm (m .fields) ≡ true → cacheForm (p .cache) ≡ true → cacheForm c ≡ true) → (sessionsForm (p .sessions) ≡ true → sessionsForm s ≡ true) → cachedForm (m .fields) ≡ true → plantForm p ≡ true → plantForm left ≡ true
+  pub leaves-form : (cachedForm (m .fields) ≡ true → cacheForm (p .cache) ≡ true → cacheForm c ≡ true) → (sessionsForm (p .sessions) ≡ true → sessionsForm s ≡ true) → cachedForm (m .fields) ≡ true → plantForm p ≡ true → plantForm withRead ≡ true
   leaves-form fc fs g f =
-      let x = form-parts p f in
-      formed _ (record { store = x .store; keys = x .keys; cache = fc g (x .cache); sessions = fs (x .sessions); buffer = x .buffer; rows = x .rows; hands = x .hands; queue = x .queue })
+      form-with-sessions _ s fs (form-with-cache p c (fc g) f)

@@ -1,6 +1,7 @@
 -- The plant with the tables that a read writes.
+use Rattle.plant.specs.With.{withCache, withSessions}
 use Rattle.plant.specs.declared.Plant.{Plant}
 use Rattle.call_read.specs.declared.Left.{Left}
 
 abbrev pub left : Plant → Left → Plant
-left p r = record { store = p .store; keys = p .keys; cache = r .cache; sessions = r .sessions; buffer = p .buffer; rows = p .rows; hands = p .hands; queue = p .queue; clock = p .clock; near = p .near; next = p .next }
+left p r = withSessions (withCache p (r .cache)) (r .sessions)

@@ -12,21 +12,14 @@ use Rattle.rules.specs.Tables.{freed}
 use Rattle.rules.specs.Step.{ending}
 use Rattle.arguments.proofs.Numbers.{held}
 use Rattle.sessions.specs.View.{viewSessions}
-use Rattle.sessions.specs.Form.{sessionsForm}
 use Rattle.sessions.specs.declared.Sessions.{Sessions}
-use Rattle.plant.specs.View.{viewPlant, keptPlant, plantForm}
+use Rattle.plant.specs.View.{viewPlant, keptPlant}
 use Rattle.plant.specs.With.{withSessions}
 use Rattle.plant.specs.declared.Plant.{Plant}
 use Rattle.plant.proofs.PlantLaws.{kept-parts}
-use Rattle.plant.proofs.Formed.{form-parts, formed}
 use Rattle.promises.proofs.Numbers.{freed-is}
 
 module _ (p : Plant) (t : Sessions) where
-  pub sessions-form : (sessionsForm (p .sessions) ≡ true → sessionsForm t ≡ true) → plantForm p ≡ true → plantForm (withSessions p t) ≡ true
-  sessions-form g f =
-      let x = form-parts p f in
-      formed _ (record { store = x .store; keys = x .keys; cache = x .cache; sessions = g (x .sessions); buffer = x .buffer; rows = x .rows; hands = x .hands; queue = x .queue })
-
   pub ended-shows : (z : ℤ) → SFits w64 z → (n : ℕ) → n ≡ cond (below (held z) (suc lastSession)) (natOf (held z)) 0
       → viewSessions t ≡ freed n (viewSessions (p .sessions)) → keptPlant p ≡ true → viewPlant (withSessions p t) ≡ ending (some (natOf z)) (viewPlant p)
   unfolding viewPlant
