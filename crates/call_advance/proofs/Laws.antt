@@ -36,7 +36,7 @@ use Rattle.workers.specs.Form.{queueForm}
 use Rattle.workers.specs.declared.Queue.{Queue}
 use Rattle.plant.specs.View.{viewPlant, keptPlant, plantForm}
 use Rattle.plant.specs.declared.Plant.{Plant}
-use Rattle.plant.proofs.Formed.{form-parts, formed}
+use Rattle.plant.proofs.Formed.{form-with-cache, form-with-sessions, form-with-queue, form-with-clock}
 use Rattle.call_advance.specs.Left.{left}
 
 -- ── the tick after some ticks ──
@@ -110,5 +110,4 @@ module _ (p : Plant) (z : ℤ) (fits : SFits w64 z) (n : ℕ) (e : n ≡ cond (b
   pub gone-on-form : (cacheForm (p .cache) ≡ true → cacheForm ca ≡ true) → (sessionsForm (p .sessions) ≡ true → sessionsForm ss ≡ true) → (queueForm (p .queue) ≡ true → queueForm q ≡ true)
       → plantForm p ≡ true → plantForm goneOn ≡ true
   gone-on-form fc fs fq f =
-      let x = form-parts p f in
-      formed _ (record { store = x .store; keys = x .keys; cache = fc (x .cache); sessions = fs (x .sessions); buffer = x .buffer; rows = x .rows; hands = x .hands; queue = fq (x .queue) })
+      form-with-clock _ now (form-with-queue _ q fq (form-with-sessions _ ss fs (form-with-cache p ca fc f)))

@@ -45,7 +45,7 @@ use Rattle.workers.specs.declared.Hands.{Hands}
 use Rattle.buffer.specs.View.{viewBuffer}
 use Rattle.plant.specs.View.{viewPlant, keptPlant, plantForm}
 use Rattle.plant.specs.declared.Plant.{Plant}
-use Rattle.plant.proofs.Formed.{form-parts, formed}
+use Rattle.plant.proofs.Formed.{form-with-store, form-with-rows, form-with-hands}
 use Rattle.call_apply.specs.Told.{noRowFor, told}
 use Rattle.call_apply.specs.Left.{left}
 use Rattle.call_apply.specs.declared.Left.{Left}
@@ -200,9 +200,7 @@ module _ (p : Plant) (n : ℕ) (b : Bool) (eb : b ≡ has n (viewRows (p .rows))
 
       pub both-form : (storeForm (p .store) ≡ true → storeForm s ≡ true) → (rowsForm (p .rows) ≡ true → rowsForm r ≡ true) → plantForm p ≡ true
           → plantForm (left p (record { store = s; rows = r; hands = p .hands })) ≡ true
-      both-form fs fr f =
-          let x = form-parts p f in
-          formed _ (record { store = fs (x .store); keys = x .keys; cache = x .cache; sessions = x .sessions; buffer = x .buffer; rows = fr (x .rows); hands = x .hands; queue = x .queue })
+      both-form fs fr f = form-with-rows _ r fr (form-with-store p s fs f)
 
 -- ── the plant left ──
 module _ (p : Plant) (z y : ℤ) (fy : SFits w64 y) (f : ℕ) (ef : f ≡ cond (below (held y) fateCount) (natOf (held y)) fateCount) where
@@ -264,6 +262,4 @@ module _ (p : Plant) (z y : ℤ) (fy : SFits w64 y) (f : ℕ) (ef : f ≡ cond (
 
       pub reply-form : (plantForm p ≡ true → plantForm (left p t) ≡ true) → (handsForm (t .hands) ≡ true → handForm heard ≡ true → handsForm hs ≡ true) → handForm heard ≡ true → plantForm p ≡ true
           → plantForm (left p heard-too) ≡ true
-      reply-form ft fh ff f =
-          let x = form-parts (left p t) (ft f) in
-          formed _ (record { store = x .store; keys = x .keys; cache = x .cache; sessions = x .sessions; buffer = x .buffer; rows = x .rows; hands = fh (x .hands) ff; queue = x .queue })
+      reply-form ft fh ff f = form-with-hands (left p t) hs (λ x. fh x ff) (ft f)

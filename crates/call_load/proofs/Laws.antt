@@ -32,13 +32,12 @@ use Rattle.field.specs.View.{viewField, refusalOf}
 use Rattle.field.specs.declared.Field.{Field}
 use Rattle.changes.specs.View.{viewUpdate}
 use Rattle.changes.specs.declared.Update.{Update}
-use Rattle.store.specs.View.{viewStore, storeForm, ranged}
+use Rattle.store.specs.View.{viewStore, ranged}
 use Rattle.store.specs.declared.Store.{Store}
 use Rattle.store.proofs.StoreLaws.{view-ranged, follow-within}
-use Rattle.plant.specs.View.{viewPlant, keptPlant, plantForm}
+use Rattle.plant.specs.View.{viewPlant, keptPlant}
 use Rattle.plant.specs.With.{withStore}
 use Rattle.plant.specs.declared.Plant.{Plant}
-use Rattle.plant.proofs.Formed.{form-parts, formed}
 
 -- ── a place in range ──
 place-in : (x y : ℤ) → goodPlace x y ≡ true → inRange (placeOf x y) ≡ true
@@ -104,8 +103,3 @@ module _ (p : Plant) (x y z v : ℤ) (wx : SFits w64 x) (wy : SFits w64 y) (wz :
       let g : goodPlace x y && goodChange z v ≡ true = not-false (goodPlace x y && goodChange z v) (not-met _ outOfRange (m .0)) in
       rw (stored g) refl
       ∙ left-accepted (Load x y z v) lent (chosen (viewPlant p)) (viewPlant p) m
-
-  pub made-form : (storeForm (p .store) ≡ true → storeForm st ≡ true) → plantForm p ≡ true → plantForm (withStore p st) ≡ true
-  made-form fs f =
-      let t = form-parts p f in
-      formed _ (record { store = fs (t .store); keys = t .keys; cache = t .cache; sessions = t .sessions; buffer = t .buffer; rows = t .rows; hands = t .hands; queue = t .queue })

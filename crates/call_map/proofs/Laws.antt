@@ -31,7 +31,7 @@ use Rattle.keys.specs.declared.Keys.{Keys}
 use Rattle.plant.specs.View.{viewPlant, keptPlant, plantForm}
 use Rattle.plant.specs.With.{withKeys}
 use Rattle.plant.specs.declared.Plant.{Plant}
-use Rattle.plant.proofs.Formed.{form-parts, formed}
+use Rattle.plant.proofs.Formed.{form-with-keys}
 use Rattle.arguments.specs.places.View.{pairs, viewPlaces, hasStray, keyOf}
 use Rattle.arguments.specs.declared.places.Places.{Places}
 use Rattle.arguments.proofs.places.PlacesLaws.{held-pairs}
@@ -156,6 +156,4 @@ module _ (p : Plant) (x y d e f g h i j o : ℤ) (wx : SFits w64 x) (wy : SFits 
       ∙ left-accepted (Map x y (pairs d e f g h i j o)) lent (chosen (viewPlant p)) (viewPlant p) m
 
 pub with-key-form : (p : Plant) (new : Key) (ks : Keys) → (keysForm (p .keys) ≡ true → keyForm new ≡ true → keysForm ks ≡ true) → keyForm new ≡ true → plantForm p ≡ true → plantForm (withKeys p ks) ≡ true
-with-key-form p new ks fk fn q =
-    let u = form-parts p q in
-    formed _ (record { store = u .store; keys = fk (u .keys) fn; cache = u .cache; sessions = u .sessions; buffer = u .buffer; rows = u .rows; hands = u .hands; queue = u .queue })
+with-key-form p new ks fk fn = form-with-keys p ks (λ x. fk x fn)

@@ -20,7 +20,7 @@ use Rattle.rules.proofs.Laws.{byCase, not-met}
 use Rattle.promises.specs.Promise.{chosen, result, Performs}
 use Rattle.promises.proofs.Telling.{refuses, accepts, none-held, left-accepted}
 use Rattle.arguments.proofs.Numbers.{held, outside, inside, index-is}
-use Rattle.plant.specs.View.{viewPlant, keptPlant, plantForm}
+use Rattle.plant.specs.View.{viewPlant, keptPlant}
 use Rattle.plant.specs.With.{withNear}
 use Rattle.plant.specs.declared.Plant.{Plant}
 
@@ -60,7 +60,3 @@ module _ (p : Plant) (z : ℤ) (fits : SFits w64 z) (n : ℕ) (e : n ≡ cond (b
       let g : below z 2 ≡ true = sym (mark-test z) ∙ not-false (goodStoreMark z) (not-met _ outOfRange (m .0)) in
       rw (near-is n, sym (index-is z fits 2 n e g)) refl
       ∙ left-accepted (Store z) lent (chosen (viewPlant p)) (viewPlant p) m
-
-  pub marked-form : plantForm p ≡ true → plantForm (withNear p (eqb n 1)) ≡ true
-  unfolding plantForm
-  marked-form f = f

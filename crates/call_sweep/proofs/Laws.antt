@@ -29,7 +29,7 @@ use Rattle.workers.specs.View.{viewHands}
 use Rattle.plant.specs.View.{viewPlant, keptPlant, plantForm}
 use Rattle.plant.specs.With.{withRows}
 use Rattle.plant.specs.declared.Plant.{Plant}
-use Rattle.plant.proofs.Formed.{form-parts, formed}
+use Rattle.plant.proofs.Formed.{form-with-rows}
 use Rattle.call_sweep.specs.MayGo.{mayGo}
 
 -- ── the picks ──
@@ -85,6 +85,4 @@ module _ (p : Plant) (l : Rows) (el : viewRows l ≡ take sweepLimit (keep (mayG
       rw (er, el) refl ∙ left-accepted Sweep lent (chosen (viewPlant p)) (viewPlant p) m
 
   pub removed-form : rowsForm r ≡ true → plantForm p ≡ true → plantForm (withRows p r) ≡ true
-  removed-form fr f =
-      let x = form-parts p f in
-      formed _ (record { store = x .store; keys = x .keys; cache = x .cache; sessions = x .sessions; buffer = x .buffer; rows = fr; hands = x .hands; queue = x .queue })
+  removed-form fr = form-with-rows p r (λ x. fr)
