@@ -16,38 +16,17 @@ use Rattle.rows.specs.View.{viewRows}
 use Rattle.rows.specs.declared.Rows.{Rows}
 use Rattle.plant.specs.declared.Plant.{Plant}
 
-unfoldable pub sight : Bool → Store → Keys → Cache → Sessions → Buffer → Rows → M.Plant
-sight near store keys cache sessions buffer rows =
-    record {
-      store = viewStore store;
-      keys = viewKeys keys;
-      cache = viewCache cache;
-      slots = viewSessions sessions;
-      buffer = viewBuffer buffer;
-      rows = viewRows rows;
-      hands = setup .hands;
-      queue = setup .queue;
-      clock = setup .clock;
-      near = near;
-      next = setup .next;
-    }
+-- the tables beside the store and the rows that say what it has
+abbrev beside : Bool → Keys → Cache → Sessions → Buffer → M.Plant
+beside near keys cache sessions buffer =
+    M.withKeys (viewKeys keys) (M.withCache (viewCache cache) (M.withSlots (viewSessions sessions) (M.withBuffer (viewBuffer buffer) (M.withNear near setup))))
 
--- without a look at the store, nor at the rows that say what it has
+unfoldable pub sight : Bool → Store → Keys → Cache → Sessions → Buffer → Rows → M.Plant
+sight near store keys cache sessions buffer rows = M.withStore (viewStore store) (M.withRows (viewRows rows) (beside near keys cache sessions buffer))
+
+-- without a look at the store, nor at the rows
 unfoldable pub sightAway : Bool → Keys → Cache → Sessions → Buffer → M.Plant
-sightAway near keys cache sessions buffer =
-    record {
-      store = setup .store;
-      keys = viewKeys keys;
-      cache = viewCache cache;
-      slots = viewSessions sessions;
-      buffer = viewBuffer buffer;
-      rows = setup .rows;
-      hands = setup .hands;
-      queue = setup .queue;
-      clock = setup .clock;
-      near = near;
-      next = setup .next;
-    }
+sightAway near keys cache sessions buffer = beside near keys cache sessions buffer
 
 -- what is at hand of a plant while its store is away
 abbrev pub atHand : Plant → M.Plant
