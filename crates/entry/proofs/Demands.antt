@@ -23,7 +23,7 @@ use Rattle.rows.proofs.Unique.{rows-unique}
 use Rattle.plant.specs.View.{viewPlant, plantForm, keptPlant}
 use Rattle.plant.specs.With.{withSessions}
 use Rattle.plant.specs.declared.Plant.{Plant}
-use Rattle.plant.proofs.Formed.{Formed, form-parts, formed}
+use Rattle.plant.proofs.Formed.{Formed, form-parts, form-with-sessions}
 use Rattle.plant.proofs.Unique.{plant-unique}
 use Rattle.calls.specs.View.{viewCall}
 use Rattle.calls.specs.declared.Call.{Call}
@@ -49,10 +49,8 @@ unchanged c r n m lent p a ws q k x e =
 but-sessions : (p q : Plant) → keptPlant p ≡ true → keptPlant q ≡ true → (l : List M.Slot) → viewPlant q ≡ M.withSlots l (viewPlant p) → q ≡ withSessions p (q .sessions)
 unfolding viewPlant
 but-sessions p q k h l e =
-    let x = parts-of p k in
-    let y = parts-of q h in
     plant-unique q (withSessions p (q .sessions)) (form-of q h)
-    (formed _ (record { store = x .store; keys = x .keys; cache = x .cache; sessions = y .sessions; buffer = x .buffer; rows = x .rows; hands = x .hands; queue = x .queue }))
+    (form-with-sessions p (q .sessions) (λ x. parts-of q h .sessions) (form-of p k))
     (e ∙ ap (λ (s : List M.Slot). M.withSlots s (viewPlant p)) (sym (ap (λ (z : M.Plant). z .slots) e)))
 
 ends : (r : Refusal) (c : Call) (s : ℤ) → K.Ends r (viewCall c) s → Ends r c s
