@@ -14,7 +14,7 @@ use Rattle.rules.specs.Limits.{rowLimit, wordsPerField}
 use Rattle.rules.specs.Refusals.{Refusal, endsSession, first}
 use Rattle.rules.specs.Values.{natOf, Place, Stock, showAll}
 use Rattle.rules.specs.Changes.{follow}
-use Rattle.rules.specs.Tables.{oldest, batchOf, unbuffer, Hand, empty, holds, handed, leased, Plant, withStore, withBuffer, withRows, withHand, withQueue}
+use Rattle.rules.specs.Tables.{oldest, batchOf, unbuffer, Hand, empty, holds, handed, leased, Plant, withStore, withBuffer, withRows, withHands, withHand, withQueue}
 use Rattle.rules.specs.Reading.{seen}
 use Rattle.rules.specs.Calls.{Fate, arrives, lost, unreached, fateOf, Call, Load, Map, Begin, Read, Change, Commit, Abandon, Advance, Take, Apply, Delete, Cut, Sweep, Store, Report, replyNumber, fine, Pick}
 use Rattle.rules.specs.Conditions.{own, noRoom, conditions}
@@ -28,22 +28,6 @@ use Rattle.rules.proofs.Answered.{asks-unseen, applied-unseen, reply-un
 -- ── hands ──
 override-same : {A : Type 0} (f : ℕ → A) (w : ℕ) → override f w (f w) ≡ f
 override-same f w = fun-ext (λ m. byCase (eqb m w) (λ e. rw (e, eqb-true m w e)) (λ e. rw e))
-
-abbrev withHands : (ℕ → Hand) → Plant → Plant
-withHands h p =
-    record {
-      store = p .store;
-      keys = p .keys;
-      cache = p .cache;
-      slots = p .slots;
-      buffer = p .buffer;
-      rows = p .rows;
-      hands = h;
-      queue = p .queue;
-      clock = p .clock;
-      near = p .near;
-      next = p .next;
-    }
 
 -- a plant is itself with any of its hands put back
 hand-kept : (w : ℕ) (p : Plant) → p ≡ withHand w (p .hands w) p

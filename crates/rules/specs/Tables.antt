@@ -210,8 +210,11 @@ withBuffer b p = record { store = p .store; keys = p .keys; cache = p .cache; sl
 abbrev pub withRows : List ℕ → Plant → Plant
 withRows r p = record { store = p .store; keys = p .keys; cache = p .cache; slots = p .slots; buffer = p .buffer; rows = r; hands = p .hands; queue = p .queue; clock = p .clock; near = p .near; next = p .next }
 
+abbrev pub withHands : (ℕ → Hand) → Plant → Plant
+withHands h p = record { store = p .store; keys = p .keys; cache = p .cache; slots = p .slots; buffer = p .buffer; rows = p .rows; hands = h; queue = p .queue; clock = p .clock; near = p .near; next = p .next }
+
 abbrev pub withHand : ℕ → Hand → Plant → Plant
-withHand w h p = record { store = p .store; keys = p .keys; cache = p .cache; slots = p .slots; buffer = p .buffer; rows = p .rows; hands = override (p .hands) w h; queue = p .queue; clock = p .clock; near = p .near; next = p .next }
+withHand w h p = withHands (override (p .hands) w h) p
 
 abbrev pub withQueue : Queue → Plant → Plant
 withQueue q p = record { store = p .store; keys = p .keys; cache = p .cache; slots = p .slots; buffer = p .buffer; rows = p .rows; hands = p .hands; queue = q; clock = p .clock; near = p .near; next = p .next }
