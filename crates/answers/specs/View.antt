@@ -1,6 +1,8 @@
 -- Answers as the rules see them. The rules give each its numbers: `refusalNumber`, `markNumber`, `replyNumber`.
 use mathlib.Core.Bool.{Bool, false, true}
-use mathlib.Core.List.{[], _∷_}
+use mathlib.Core.Option.{Option, none, some}
+use mathlib.Core.List.{List, [], _∷_}
+use Prim.Native.Nat.{ℕ}
 use Rattle.rules.specs.Lists.{bit}
 use Rattle.rules.specs.Refusals as R
 use Rattle.rules.specs.Calls as C
@@ -62,6 +64,11 @@ viewAnswer (Applied r) = C.fine (C.replyNumber (viewReply r) ∷ [])
 viewAnswer (Deleted b) = C.fine (bit b ∷ [])
 viewAnswer (Swept n) = C.fine (n ∷ [])
 viewAnswer (Reported a b c) = C.fine (a ∷ b ∷ c ∷ [])
+
+-- the answer by a refusal, or by none: then these numbers are told
+abbrev pub answerBy : Option R.Refusal → List ℕ → C.Answer
+answerBy none ns = C.fine ns
+answerBy (some r) ns = C.refused r
 
 abbrev pub isRefused : C.Answer → Bool
 isRefused (C.refused r) = true

@@ -47,17 +47,17 @@ use Rattle.cache.specs.View.{viewCache}
 use Rattle.cache.specs.declared.Cache.{Cache}
 use Rattle.plant.specs.View.{viewPlant, keptPlant}
 use Rattle.plant.specs.declared.Plant.{Plant}
-use Rattle.answers.specs.View.{viewAnswer, viewRefusal}
+use Rattle.answers.specs.View.{viewAnswer, viewRefusal, answerBy}
 use Rattle.answers.specs.declared.Answer.{Answer}
 use Rattle.answers.specs.declared.Refusal as D
 use Rattle.promises.specs.Promise.{chosen, result}
-use Rattle.promises.proofs.Telling.{refuses, accepts}
+use Rattle.promises.proofs.Telling.{refuses, answers-by}
 use Rattle.arguments.specs.change.View.{refusalAt}
 use Rattle.caller.proofs.Standing.{has-slot, its-session, its-number}
 use Rattle.sight.specs.Value.{valueBy, value}
 use Rattle.sight.specs.Sight.{sight, sightAway, atHand}
 use Rattle.sight.proofs.Laws.{value-seen}
-use Rattle.call_change.specs.Met.{told, laterConditions, laterAnswer, foundAnswer}
+use Rattle.call_change.specs.Met.{laterConditions, laterAnswer, foundAnswer}
 
 -- ── whether the field is known ──
 module _ (k : ℕ) (x : Bool) (s : Bool) (es : s ≡ isSet (kindOf k)) where
@@ -69,11 +69,11 @@ module _ (k : ℕ) (x : Bool) (s : Bool) (es : s ≡ isSet (kindOf k)) where
 
 -- ── what it meets at its field ──
 module _ (m : Option Refusal) (k : ℕ) (e : refusalAt k ≡ m) (n : ℕ) where
-  pub meets-none : k ≡ 0 → fine (n ∷ []) ≡ told m n
+  pub meets-none : k ≡ 0 → fine (n ∷ []) ≡ answerBy m (n ∷ [])
   unfolding refusalAt
   meets-none h = rw (sym e, eq-eqb k 0 h) refl
 
-  pub meets-one : (k ≡ 0 → ⊥) → (r : D.Refusal) → viewRefusal r ≡ refusalOf k → refused (viewRefusal r) ≡ told m n
+  pub meets-one : (k ≡ 0 → ⊥) → (r : D.Refusal) → viewRefusal r ≡ refusalOf k → refused (viewRefusal r) ≡ answerBy m (n ∷ [])
   unfolding refusalAt
   meets-one h r er = ap refused er ∙ rw (sym e, ne-eqb k 0 h) refl
 
@@ -100,12 +100,12 @@ module _ (near : Bool) (store : Store) (keys : Keys) (cache : Cache) (sessions :
       unfolding laterAnswer sight viewUpdate viewPlace _⇒_
       is-away i = rw (sym em, lt-leb changeLimit m h, sym ex, g, sym eu, i) refl
 
-      pub is-met : u ≡ false → (f : Field) → viewField f ≡ valueBy near (viewStore store) (viewKeys keys) (viewCache cache) (viewBuffer buffer) (viewRows rows) (viewChanges own) (viewPlace (c .place)) → (r : A.Answer) → r ≡ told (meets (viewUpdate c) (viewField f)) (m + 1) → Later r
+      pub is-met : u ≡ false → (f : Field) → viewField f ≡ valueBy near (viewStore store) (viewKeys keys) (viewCache cache) (viewBuffer buffer) (viewRows rows) (viewChanges own) (viewPlace (c .place)) → (r : A.Answer) → r ≡ answerBy (meets (viewUpdate c) (viewField f)) ((m + 1) ∷ []) → Later r
       unfolding laterAnswer sight viewUpdate viewPlace _⇒_
       is-met i f ef r er =
           er
           ∙ rw (sym em, lt-leb changeLimit m h, sym ex, g, sym eu, i, ef, add-one m)
-          (ap (λ o. told o (suc m)) (sym (first-one (meets (viewUpdate c) (valueBy near (viewStore store) (viewKeys keys) (viewCache cache) (viewBuffer buffer) (viewRows rows) (viewChanges own) (viewPlace (c .place)))))))
+          (ap (λ o. answerBy o (suc m ∷ [])) (sym (first-one (meets (viewUpdate c) (valueBy near (viewStore store) (viewKeys keys) (viewCache cache) (viewBuffer buffer) (viewRows rows) (viewChanges own) (viewPlace (c .place)))))))
 
 -- ── the whole answer ──
 -- the tables looked at are the plant's
@@ -133,11 +133,6 @@ module _ (p : Plant) (k : keptPlant p ≡ true) (cs : List C.Update) (c : C.Upda
   as-seen : (x y : Option Refusal) → first (x ∷ y ∷ unknown ∷ meets c (seen (viewPlant p) cs (c .at)) ∷ []) ≡ first (x ∷ y ∷ unknown ∷ meets c (value (viewPlant p) cs (c .at)) ∷ [])
   as-seen x y = first-under x y (unknown ∷ meets c (seen (viewPlant p) cs (c .at)) ∷ []) (unknown ∷ meets c (value (viewPlant p) cs (c .at)) ∷ []) found
 
-told-is : (c : Call) (lent : List ℤ) (pick : Pick) (p : M.Plant) (n : ℕ) → accepted c lent pick p .answer ≡ fine (n ∷ [])
-    → (o : Option Refusal) → first (conditions c lent p) ≡ o → told o n ≡ step c lent pick p .answer
-told-is c lent pick p n a none e = sym a ∙ accepts c lent pick p e
-told-is c lent pick p n a (some r) e = refuses c lent pick p r e
-
 module _ (p : Plant) (z d f k v : ℤ) (fd : SFits w64 d) (ff : SFits w64 f) (fk : SFits w64 k) (fv : SFits w64 v)
     (c : Update) (eg : not (eqb (c .kind) 0) ≡ (goodPlace (held d) (held f) && goodChange (held k) (held v)))
     (ec : goodPlace (held d) (held f) && goodChange (held k) (held v) ≡ true → viewUpdate c ≡ updateOf (placeOf (held d) (held f)) (natOf (held k)) (held v)) where
@@ -162,11 +157,11 @@ module _ (p : Plant) (z d f k v : ℤ) (fd : SFits w64 d) (ff : SFits w64 f) (fk
       (t : Bool) (et : t ≡ M.hasSlot n (viewSessions (p .sessions))) where
     abbrev Told : ℕ → A.Answer
     Told i =
-        told (first (
+        answerBy (first (
         (not (goodPlace d f && goodChange k v) ⇒ outOfRange)
         ∷ (not (M.hasSlot i (viewSessions (p .sessions))) ⇒ noSlot)
         ∷ (M.session i (viewSessions (p .sessions)) .doomed ⇒ wasDoomed)
-        ∷ laterConditions (atHand p) i (M.session i (viewSessions (p .sessions)) .changes) (updateOf (placeOf d f) (natOf k) v))) (suc (length (M.session i (viewSessions (p .sessions)) .changes)))
+        ∷ laterConditions (atHand p) i (M.session i (viewSessions (p .sessions)) .changes) (updateOf (placeOf d f) (natOf k) v))) (suc (length (M.session i (viewSessions (p .sessions)) .changes)) ∷ [])
 
     at-number : (a : A.Answer) → a ≡ Told n → Found a
     unfolding foundAnswer sightAway
@@ -229,7 +224,7 @@ module _ (p : Plant) (z d f k v : ℤ) (fd : SFits w64 d) (ff : SFits w64 f) (fk
         meeting i r er =
             er
             ∙ same-answer p n (viewChanges (s .changes)) (viewUpdate c)
-            ∙ told-is (Change z d f k v) lent (chosen (viewPlant p)) (viewPlant p) (suc (length (viewChanges (s .changes)))) (rw own-is refl)
+            ∙ answers-by (Change z d f k v) lent (chosen (viewPlant p)) (viewPlant p) (suc (length (viewChanges (s .changes))) ∷ []) (rw own-is refl)
             (first (laterConditions (viewPlant p) n (viewChanges (s .changes)) (viewUpdate c)))
             (rw (good h, slot, g, doomed, i, own-is, its-number p kept z fz n e t et g, update-is (good h))
             (as-seen p kept (viewChanges (s .changes)) (updateOf (placeOf d f) (natOf k) v) at-place

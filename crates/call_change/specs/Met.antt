@@ -1,7 +1,7 @@
 -- The answer of a change, as code finds it.
 use Prim.Native.Nat.{ℕ, suc}
 use mathlib.Core.Bool.{_&&_, not}
-use mathlib.Core.Option.{Option, none, some}
+use mathlib.Core.Option.{Option}
 use mathlib.Core.List.{List, [], _∷_}
 use lib.Dec.{leb}
 use lib.IntN.{ℤ}
@@ -12,15 +12,11 @@ use Rattle.rules.specs.Refusals.{Refusal, outOfRange, noSlot, wasDoomed, change
 use Rattle.rules.specs.Changes.{Update, isSet, meets, placeOf, updateOf}
 use Rattle.rules.specs.Tables.{Plant, session, hasSlot, othersExclusive}
 use Rattle.rules.specs.Reading.{known}
-use Rattle.rules.specs.Calls.{Answer, refused, fine}
+use Rattle.rules.specs.Calls.{Answer}
 use Rattle.rules.specs.Conditions.{goodPlace, goodChange}
 use Rattle.arguments.specs.Numbers.{sessionNumber}
+use Rattle.answers.specs.View.{answerBy}
 use Rattle.sight.specs.Value.{value}
-
--- refused, or told the count of changes
-abbrev pub told : Option Refusal → ℕ → Answer
-told none count = fine (count ∷ [])
-told (some r) count = refused r
 
 -- the rules' conditions from 5 on, of session n with its own changes
 abbrev pub laterConditions : Plant → ℕ → List Update → Update → List (Option Refusal)
@@ -32,15 +28,15 @@ laterConditions p n own c =
     ∷ []
 
 unfoldable pub laterAnswer : Plant → ℕ → List Update → Update → Answer
-laterAnswer p n own c = told (first (laterConditions p n own c)) (suc (length own))
+laterAnswer p n own c = answerBy (first (laterConditions p n own c)) (suc (length own) ∷ [])
 
 -- the whole answer, of any plant: while the store is away, of what is at hand
 unfoldable pub foundAnswer : (session document field kind value : ℤ) → Plant → Answer
 foundAnswer s d f k v p =
-    told
+    answerBy
     (first (
     (not (goodPlace d f && goodChange k v) ⇒ outOfRange)
     ∷ (not (hasSlot (sessionNumber s) (p .slots)) ⇒ noSlot)
     ∷ (session (sessionNumber s) (p .slots) .doomed ⇒ wasDoomed)
     ∷ laterConditions p (sessionNumber s) (session (sessionNumber s) (p .slots) .changes) (updateOf (placeOf d f) (natOf k) v)))
-    (suc (length (session (sessionNumber s) (p .slots) .changes)))
+    (suc (length (session (sessionNumber s) (p .slots) .changes)) ∷ [])

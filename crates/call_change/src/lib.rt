@@ -1,7 +1,7 @@
 // Change: a session changes a field, under an exclusive lease on its document.
 ghost use mathlib.Core.Path.{_≡_};
 ghost use mathlib.Core.Bool.{true, false, not, _&&_, _||_};
-ghost use mathlib.Core.List.{List};
+ghost use mathlib.Core.List.{List, [], _∷_};
 ghost use lib.IntN.{ℤ};
 ghost use Rattle.rules.specs.Changes.{isSet, kindOf, meets};
 ghost use Rattle.rules.specs.Calls.{Change};
@@ -13,11 +13,11 @@ ghost use Rattle.buffer.specs.View.{viewBuffer};
 ghost use Rattle.cache.specs.View.{viewCache};
 ghost use Rattle.plant.specs.View.{plantForm};
 ghost use Rattle.plant.specs.With.{withSessions};
-ghost use Rattle.answers.specs.View.{viewAnswer};
+ghost use Rattle.answers.specs.View.{viewAnswer, answerBy};
 ghost use Rattle.answers.specs.Own.{isAnswerOf};
 ghost use Rattle.promises.specs.Promise.{Answers, Performs};
 ghost use Rattle.sight.specs.Sight.{sight, atHand};
-ghost use Rattle.call_change.specs.Met.{told, laterAnswer, foundAnswer};
+ghost use Rattle.call_change.specs.Met.{laterAnswer, foundAnswer};
 use answers::Answer;
 use answers::Refusal;
 use buffer::Buffer;
@@ -44,7 +44,7 @@ fn is_unknown(near: bool, keys: Keys, cache: Cache, buffer: Buffer, own: Changes
 
 // The answer of a change at a field, where the session has count changes with it.
 fn met(f: Field, c: Update, count: u8) -> Answer
-    ensures shows { λ r. ⌜ viewAnswer r ≡ told (meets (viewUpdate c) (viewField f)) count ⌝ }
+    ensures shows { λ r. ⌜ viewAnswer r ≡ answerBy (meets (viewUpdate c) (viewField f)) (count ∷ []) ⌝ }
     ensures own { λ r. ⌜ ((s d x k v : ℤ) → isAnswerOf (Change s d x k v) r ≡ true) ⌝ }
 {
     let number = arguments::change::met(c, f);

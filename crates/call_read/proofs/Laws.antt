@@ -43,7 +43,7 @@ use Rattle.plant.specs.View.{viewPlant, keptPlant, plantForm}
 use Rattle.plant.specs.declared.Plant.{Plant}
 use Rattle.plant.proofs.PlantLaws.{kept-parts}
 use Rattle.plant.proofs.Formed.{form-with-cache, form-with-sessions}
-use Rattle.answers.specs.View.{viewAnswer, viewMark, isRefused}
+use Rattle.answers.specs.View.{viewAnswer, viewMark, isRefused, answerBy}
 use Rattle.answers.specs.Own.{isAnswerOf}
 use Rattle.answers.proofs.Own.{refused-own}
 use Rattle.answers.specs.declared.Answer.{Answer}
@@ -51,13 +51,12 @@ use Rattle.answers.specs.declared.Mark.{Mark}
 use Rattle.promises.specs.Promise.{chosen, result, Answers, Performs}
 use Rattle.promises.proofs.Telling.{none-held, left-accepted}
 use Rattle.call_read_shown.specs.values.Shown.{shownIn}
-use Rattle.call_read.specs.admission.Told.{told}
 use Rattle.sight.specs.Sight.{sight, sightAway, atHand}
 use Rattle.call_read_shown.specs.Fields.{ownOf, byMark, shownFields}
 use Rattle.call_read_shown.specs.declared.Marked.{Marked}
 use Rattle.call_read_shown.proofs.Kept.{shown-is, cache-is}
 use Rattle.call_read.specs.Left.{left}
-use Rattle.call_read.specs.Shows.{Shows, answerBy, wordsBy, foundAnswer, foundWords}
+use Rattle.call_read.specs.Shows.{Shows, wordsBy, foundAnswer, foundWords}
 use Rattle.call_read.proofs.Named.{named}
 
 -- ── the tables looked at are the plant's ──
@@ -97,15 +96,15 @@ module _ (p : Plant) (n k : ℕ) where
       go C.ownChange = rw h refl
 
 -- ── what a refusal, or none, says of the step ──
-told-refused : (o : Option Refusal) (c : Call) (lent : List ℤ) (pick : Pick) (p : M.Plant) → isRefused (told o) ≡ true → (told o ≡ settle o c lent pick p .answer) × (lent ≡ settle o c lent pick p .words)
+told-refused : (o : Option Refusal) (c : Call) (lent : List ℤ) (pick : Pick) (p : M.Plant) → isRefused (answerBy o []) ≡ true → (answerBy o [] ≡ settle o c lent pick p .answer) × (lent ≡ settle o c lent pick p .words)
 told-refused none c lent pick p h = absurd (true≢false (sym h))
 told-refused (some r) c lent pick p h = (refl, refl)
 
-told-found : (o : Option Refusal) (m : C.Mark) (fs : List S.Field) (lent : List ℤ) → isRefused (told o) ≡ true → (told o ≡ answerBy o m) × (lent ≡ wordsBy o fs lent)
-told-found none m fs lent h = absurd (true≢false (sym h))
-told-found (some r) m fs lent h = (refl, refl)
+told-found : (o : Option Refusal) (ns : List ℕ) (fs : List S.Field) (lent : List ℤ) → isRefused (answerBy o []) ≡ true → (answerBy o [] ≡ answerBy o ns) × (lent ≡ wordsBy o fs lent)
+told-found none ns fs lent h = absurd (true≢false (sym h))
+told-found (some r) ns fs lent h = (refl, refl)
 
-told-none : (o : Option Refusal) → isRefused (told o) ≡ false → o ≡ none
+told-none : (o : Option Refusal) → isRefused (answerBy o []) ≡ false → o ≡ none
 told-none none h = refl
 told-none (some r) h = absurd (true≢false h)
 
@@ -140,23 +139,23 @@ own-refusal z y a r er t = refused-own (Read z y) a (sym er ∙ t)
 -- ── the answer and the words ──
 module _ (p : Plant) (z : ℤ) (fz : SFits w64 z) (n : ℕ) (en : n ≡ cond (below (held z) (suc lastSession)) (natOf (held z)) 0)
     (y : ℤ) (fy : SFits w64 y) (k : ℕ) (ek : k ≡ cond (below (held y) keyCount) (natOf (held y)) keyCount)
-    (lent : List ℤ) (a : Answer) (ea : (words : List ℤ) → length lent ≡ length words → viewAnswer a ≡ told (first (conditions (Read (pos n) (pos k)) words (sightAway (p .near) (p .keys) (p .cache) (p .sessions) (p .buffer)))))
+    (lent : List ℤ) (a : Answer) (ea : (words : List ℤ) → length lent ≡ length words → viewAnswer a ≡ answerBy (first (conditions (Read (pos n) (pos k)) words (sightAway (p .near) (p .keys) (p .cache) (p .sessions) (p .buffer)))) [])
     (r : Bool) (er : r ≡ isRefused (viewAnswer a)) where
-  as-told : viewAnswer a ≡ told (first (conditions (Read (pos n) (pos k)) lent (viewPlant p)))
-  as-told = ea lent refl ∙ ap (λ l. told (first l)) (same-conditions p n k lent)
+  as-told : viewAnswer a ≡ answerBy (first (conditions (Read (pos n) (pos k)) lent (viewPlant p))) []
+  as-told = ea lent refl ∙ ap (λ l. answerBy (first l) []) (same-conditions p n k lent)
 
-  is-told : isRefused (told (first (conditions (Read (pos n) (pos k)) lent (viewPlant p)))) ≡ r
+  is-told : isRefused (answerBy (first (conditions (Read (pos n) (pos k)) lent (viewPlant p))) []) ≡ r
   is-told = ap isRefused (sym as-told) ∙ sym er
 
   -- what is found without the store, at these numbers
   abbrev met : Option Refusal
   met = first (conditions (Read (pos n) (pos k)) lent (atHand p))
 
-  met-is : isRefused (told met) ≡ r
+  met-is : isRefused (answerBy met []) ≡ r
   met-is = ap isRefused (sym (ea lent refl)) ∙ sym er
 
   abbrev Found : C.Answer → List ℤ → ℕ → ℕ → Type 0
-  Found b ws i j = (b ≡ answerBy (first (conditions (Read (pos i) (pos j)) lent (atHand p))) (mark i j (atHand p))) × (ws ≡ wordsBy (first (conditions (Read (pos i) (pos j)) lent (atHand p))) (shownFields i j (atHand p)) lent)
+  Found b ws i j = (b ≡ answerBy (first (conditions (Read (pos i) (pos j)) lent (atHand p))) (markNumber (mark i j (atHand p)) ∷ [])) × (ws ≡ wordsBy (first (conditions (Read (pos i) (pos j)) lent (atHand p))) (shownFields i j (atHand p)) lent)
 
   found : (b : C.Answer) (ws : List ℤ) → Found b ws n k → (b ≡ foundAnswer z y lent (atHand p)) × (ws ≡ foundWords z y lent (atHand p))
   unfolding foundAnswer foundWords
@@ -164,7 +163,7 @@ module _ (p : Plant) (z : ℤ) (fz : SFits w64 z) (n : ℕ) (en : n ≡ cond (be
 
   module _ (t : r ≡ true) where
     pub turned-found : p .near ≡ false → (viewAnswer a ≡ foundAnswer z y lent (atHand p)) × (lent ≡ foundWords z y lent (atHand p))
-    turned-found h = let x = told-found met (mark n k (atHand p)) (shownFields n k (atHand p)) lent (met-is ∙ t) in found (viewAnswer a) lent (ea lent refl ∙ x .0, x .1)
+    turned-found h = let x = told-found met (markNumber (mark n k (atHand p)) ∷ []) (shownFields n k (atHand p)) lent (met-is ∙ t) in found (viewAnswer a) lent (ea lent refl ∙ x .0, x .1)
 
     turned : (viewAnswer a ≡ result (Read (pos n) (pos k)) lent p .answer) × (lent ≡ result (Read (pos n) (pos k)) lent p .words)
     unfolding step

@@ -1,4 +1,3 @@
 -- What a read shows and leaves.
 pub mod Shows
 pub mod Left
-pub mod admission

@@ -9,15 +9,14 @@ ghost use Rattle.changes.specs.View.{viewChanges};
 ghost use Rattle.sessions.specs.View.{viewSessions};
 ghost use Rattle.buffer.specs.View.{viewBuffer};
 ghost use Rattle.cache.specs.View.{viewCache};
-ghost use mathlib.Core.List.{List};
+ghost use mathlib.Core.List.{List, []};
 ghost use lib.IntN.{ℤ, pos};
 ghost use lib.ListN.{length};
 ghost use Rattle.rules.specs.Refusals.{first};
 ghost use Rattle.rules.specs.Calls.{Read};
 ghost use Rattle.rules.specs.Conditions.{conditions};
-ghost use Rattle.answers.specs.View.{viewAnswer};
+ghost use Rattle.answers.specs.View.{viewAnswer, answerBy};
 ghost use Rattle.sight.specs.Sight.{sightAway};
-ghost use Rattle.call_read.specs.admission.Told.{told};
 use answers::Answer;
 use answers::Refusal;
 use buffer::Buffer;
@@ -71,7 +70,7 @@ pub fn refusal(
     k: u8,
     lent: usize,
 ) -> Answer
-    ensures { λ r. ⌜ ((words : List ℤ) → lent ≡ length words → viewAnswer r ≡ told (first (conditions (Read (pos n) (pos k)) words (sightAway near keys cache sessions buffer)))) ⌝ }
+    ensures { λ r. ⌜ ((words : List ℤ) → lent ≡ length words → viewAnswer r ≡ answerBy (first (conditions (Read (pos n) (pos k)) words (sightAway near keys cache sessions buffer))) []) ⌝ }
 {
     if Keys::LIMIT <= k as usize {
         return Answer::Refused(Refusal::OutOfRange);

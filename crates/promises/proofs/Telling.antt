@@ -3,6 +3,7 @@ use mathlib.Core.Path.{_≡_, refl, sym, _∙_, ap}
 use mathlib.Core.Bool.{true, false, true≢false}
 use mathlib.Core.Option.{Option, none, some}
 use mathlib.Core.List.{List}
+use Prim.Native.Nat.{ℕ}
 use lib.IntN.{ℤ}
 use Rattle.rules.specs.Refusals.{Refusal, first}
 use Rattle.rules.specs.Tables as M
@@ -11,7 +12,7 @@ use Rattle.rules.specs.Conditions.{conditions}
 use Rattle.rules.specs.Step.{accepted, sessionOf, ending, settle, step}
 use Rattle.rules.proofs.Laws.{NoneMet, none-met}
 use Rattle.rules.proofs.Steps.{step-fine, refused-is}
-use Rattle.answers.specs.View.{isRefused, isEnding}
+use Rattle.answers.specs.View.{answerBy, isRefused, isEnding}
 
 module _ (c : Call) (lent : List ℤ) (pick : Pick) (p : M.Plant) where
   -- ── from the conditions ──
@@ -22,6 +23,10 @@ module _ (c : Call) (lent : List ℤ) (pick : Pick) (p : M.Plant) where
   pub accepts : first (conditions c lent p) ≡ none → accepted c lent pick p .answer ≡ step c lent pick p .answer
   unfolding step
   accepts e = rw e refl
+
+  pub answers-by : (ns : List ℕ) → accepted c lent pick p .answer ≡ fine ns → (o : Option Refusal) → first (conditions c lent p) ≡ o → answerBy o ns ≡ step c lent pick p .answer
+  answers-by ns a none e = sym a ∙ accepts e
+  answers-by ns a (some r) e = refuses r e
 
   -- ── from the answer ──
   pub none-held : (a : Answer) → a ≡ step c lent pick p .answer → isRefused a ≡ false → NoneMet (conditions c lent p)

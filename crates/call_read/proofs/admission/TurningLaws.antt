@@ -25,8 +25,8 @@ use Rattle.buffer.specs.View.{viewBuffer}
 use Rattle.buffer.specs.declared.Buffer.{Buffer}
 use Rattle.cache.specs.View.{viewCache}
 use Rattle.cache.specs.declared.Cache.{Cache}
+use Rattle.answers.specs.View.{answerBy}
 use Rattle.sight.specs.Sight.{sightAway}
-use Rattle.call_read.specs.admission.Told.{told}
 
 nobody : {A : Type 0} (l : List A) → any (λ a. false) l ≡ false
 nobody [] = refl
@@ -34,7 +34,7 @@ nobody (a ∷ l) = nobody l
 
 module _ (near : Bool) (keys : Keys) (cache : Cache) (sessions : Sessions) (buffer : Buffer) (n k : ℕ) (words : List ℤ) where
   abbrev Turned : Answer → Type 0
-  Turned a = a ≡ told (first (conditions (Read (pos n) (pos k)) words (sightAway near keys cache sessions buffer)))
+  Turned a = a ≡ answerBy (first (conditions (Read (pos n) (pos k)) words (sightAway near keys cache sessions buffer))) []
 
   pub out-of-range : keyCount ≤ k → Turned (refused outOfRange)
   unfolding conditions sightAway _⇒_

@@ -1,2 +1,0 @@
--- Who is turned away, as an answer.
-pub mod Told
