@@ -9,7 +9,6 @@ ghost use Rattle.plant.specs.With.{withSessions};
 ghost use Rattle.answers.specs.Own.{isAnswerOf};
 ghost use Rattle.promises.specs.Promise.{Answers, Performs};
 use answers::Answer;
-use answers::Refusal;
 use plant::Plant;
 use sessions::Sessions;
 
@@ -19,12 +18,10 @@ pub fn answer(p: Plant, session: i64) -> Answer
 {
     let n = arguments::session(session);
     let sessions = p.sessions;
-    if !sessions.has(n) {
-        return Answer::Refused(Refusal::NoSlot);
-    }
     let s = sessions.session(n);
-    if s.is_doomed() {
-        return Answer::Refused(Refusal::WasDoomed);
+    let turned = caller::refusal(sessions, n, s);
+    if turned.is_refused() {
+        return turned;
     }
     Answer::Done
 }

@@ -2,7 +2,7 @@
 use mathlib.Core.Path.{_≡_, refl, sym, _∙_, ap}
 use mathlib.Core.Bool.{Bool, true, false, not, cond, _&&_, _||_}
 use mathlib.Core.Option.{Option, none, some}
-use mathlib.Core.List.{List, [], _∷_}
+use mathlib.Core.List.{List, [], _∷_, _++_}
 use Prim.Native.Nat.{ℕ, suc, _<_, _≤_, _+_}
 use native.Mathlib.Numerals.{add-one}
 use lib.Dec.{eqb, leb}
@@ -14,15 +14,15 @@ use mir.Facts.{toZ-ofZ}
 use borrow.Author.Tests.{lt-ltb, le-leb, lt-leb, eq-eqb, ne-eqb}
 use Rattle.rules.specs.Limits.{documentCount, fieldCount, lastSession, changeLimit}
 use Rattle.rules.specs.Values.{below, natOf, inRange}
-use Rattle.rules.specs.Refusals.{Refusal, outOfRange, noSlot, wasDoomed, changesFull, exclusiveElsewhere, storeAway, _⇒_, first}
+use Rattle.rules.specs.Refusals.{Refusal, outOfRange, changesFull, exclusiveElsewhere, storeAway, _⇒_, first}
 use Rattle.rules.specs.Changes.{kindOf, isSet, meets, placeOf, updateOf}
 use Rattle.rules.specs.Changes as C
 use Rattle.rules.specs.Tables as M
-use Rattle.rules.specs.Calls.{Change, Call, Pick, refused, fine}
+use Rattle.rules.specs.Calls.{Change, refused, fine}
 use Rattle.rules.specs.Calls as A
 use Rattle.rules.specs.Reading.{seen, knownAway, known}
-use Rattle.rules.specs.Conditions.{goodPlace, goodChange, sessionAt, own, conditions}
-use Rattle.rules.specs.Step.{step, accepted}
+use Rattle.rules.specs.Conditions.{goodPlace, goodChange, own, conditions}
+use Rattle.rules.specs.Step.{accepted}
 use Rattle.rules.proofs.Laws.{byCase, and-true, below-is, both}
 use Rattle.rules.proofs.Away.{set-meets}
 use Rattle.arguments.proofs.Numbers.{held, session-is}
@@ -33,7 +33,7 @@ use Rattle.field.specs.declared.Field.{Field}
 use Rattle.changes.specs.View.{viewChanges, viewUpdate}
 use Rattle.changes.specs.declared.Changes.{Changes}
 use Rattle.changes.specs.declared.Update.{Update}
-use Rattle.sessions.specs.session.View.{viewSession, viewSlot}
+use Rattle.sessions.specs.session.View.{viewSession}
 use Rattle.sessions.specs.declared.session.Session.{Session}
 use Rattle.sessions.specs.View.{viewSessions}
 use Rattle.sessions.specs.declared.Sessions.{Sessions}
@@ -47,17 +47,18 @@ use Rattle.cache.specs.View.{viewCache}
 use Rattle.cache.specs.declared.Cache.{Cache}
 use Rattle.plant.specs.View.{viewPlant, keptPlant}
 use Rattle.plant.specs.declared.Plant.{Plant}
-use Rattle.answers.specs.View.{viewAnswer, viewRefusal, answerBy}
+use Rattle.answers.specs.View.{viewAnswer, viewRefusal, answerBy, isRefused}
 use Rattle.answers.specs.declared.Answer.{Answer}
 use Rattle.answers.specs.declared.Refusal as D
 use Rattle.promises.specs.Promise.{chosen, result}
 use Rattle.promises.proofs.Telling.{refuses, answers-by}
 use Rattle.arguments.specs.change.View.{refusalAt}
-use Rattle.caller.proofs.Standing.{has-slot, its-session, its-number}
+use Rattle.caller.specs.Standing.{standing, Judges}
+use Rattle.caller.proofs.Standing.{Asks, turned-first, is-open, its-number, its-session, turned, stands}
 use Rattle.sight.specs.Value.{valueBy, value}
 use Rattle.sight.specs.Sight.{sight, sightAway, atHand}
 use Rattle.sight.proofs.Laws.{value-seen}
-use Rattle.call_change.specs.Met.{laterConditions, laterAnswer, foundAnswer}
+use Rattle.call_change.specs.Met.{conditionsBy, laterConditions, laterAnswer, foundAnswer}
 
 -- ── whether the field is known ──
 module _ (k : ℕ) (x : Bool) (s : Bool) (es : s ≡ isSet (kindOf k)) where
@@ -154,31 +155,30 @@ module _ (p : Plant) (z d f k v : ℤ) (fd : SFits w64 d) (ff : SFits w64 f) (fk
   found-out h = rw (sym good-is, eq-eqb (c .kind) 0 h) refl
 
   module _ (h : c .kind ≡ 0 → ⊥) (fz : SFits w64 z) (n : ℕ) (e : n ≡ cond (below (held z) (suc lastSession)) (natOf (held z)) 0)
-      (t : Bool) (et : t ≡ M.hasSlot n (viewSessions (p .sessions))) where
+      (s : Session) (es : viewSession s ≡ M.session n (viewSessions (p .sessions))) (w : Answer) (ew : Judges (p .sessions) n s w) (t : Bool) (et : t ≡ isRefused (viewAnswer w)) where
+    abbrev changes : ℕ → List C.Update
+    changes i = M.session i (viewSessions (p .sessions)) .changes
+
+    abbrev later : ℕ → List (Option Refusal)
+    later i = laterConditions (atHand p) i (changes i) (updateOf (placeOf d f) (natOf k) v)
+
     abbrev Told : ℕ → A.Answer
-    Told i =
-        answerBy (first (
-        (not (goodPlace d f && goodChange k v) ⇒ outOfRange)
-        ∷ (not (M.hasSlot i (viewSessions (p .sessions))) ⇒ noSlot)
-        ∷ (M.session i (viewSessions (p .sessions)) .doomed ⇒ wasDoomed)
-        ∷ laterConditions (atHand p) i (M.session i (viewSessions (p .sessions)) .changes) (updateOf (placeOf d f) (natOf k) v))) (suc (length (M.session i (viewSessions (p .sessions)) .changes)) ∷ [])
+    Told i = answerBy (first ((not (goodPlace d f && goodChange k v) ⇒ outOfRange) ∷ standing i (viewSessions (p .sessions)) ++ later i)) (suc (length (changes i)) ∷ [])
 
     at-number : (a : A.Answer) → a ≡ Told n → Found a
     unfolding foundAnswer sightAway
     at-number a h = h ∙ ap Told (session-is z fz n e)
 
-    pub found-no-slot : not t ≡ true → Found (refused noSlot)
+    pub found-turned : t ≡ true → Found (viewAnswer w)
     unfolding _⇒_
-    found-no-slot g = at-number (refused noSlot) (rw (good h, sym et, g) refl)
+    found-turned g = at-number (viewAnswer w) (rw (good h) (turned-first (p .sessions) n s es w ew t et g (later n) (suc (length (changes n)) ∷ [])))
 
-    module _ (g : not t ≡ false) (s : Session) (es : viewSession s ≡ M.session n (viewSessions (p .sessions))) (b : Bool) (eb : b ≡ viewSlot s .session .doomed) where
-      pub found-doomed : b ≡ true → Found (refused wasDoomed)
-      unfolding viewSlot _⇒_
-      found-doomed i = at-number (refused wasDoomed) (rw (good h, sym et, g, sym es, sym eb, i) refl)
-
-      pub found-later : b ≡ false → (r : A.Answer) → r ≡ laterAnswer (sight (p .near) (p .store) (p .keys) (p .cache) (p .sessions) (p .buffer) (p .rows)) n (viewChanges (s .changes)) (viewUpdate c) → p .near ≡ false → Found r
-      unfolding laterAnswer sight sightAway viewSlot viewSession _⇒_
-      found-later i r er a = at-number r (er ∙ rw (good h, sym et, g, sym es, sym eb, i, a, update-is (good h)) refl)
+    pub found-later : t ≡ false → (r : A.Answer) → r ≡ laterAnswer (sight (p .near) (p .store) (p .keys) (p .cache) (p .sessions) (p .buffer) (p .rows)) n (viewChanges (s .changes)) (viewUpdate c) → p .near ≡ false → Found r
+    unfolding laterAnswer sight sightAway viewSession _⇒_
+    found-later g r er a =
+        let o = is-open (p .sessions) n s es w ew t et g in
+        let c : changes n ≡ viewChanges (s .changes) = ap (λ (x : M.Session). x .changes) (sym es) in
+        at-number r (er ∙ rw (good h, o .0, o .1, c, a, update-is (good h)) refl)
 
   module _ (lent : List ℤ) (kept : keptPlant p ≡ true) where
     abbrev Answered : A.Answer → Type 0
@@ -189,43 +189,33 @@ module _ (p : Plant) (z d f k v : ℤ) (fd : SFits w64 d) (ff : SFits w64 f) (fk
     out-of-range h = refuses (Change z d f k v) lent (chosen (viewPlant p)) (viewPlant p) _ (rw (sym good-is, eq-eqb (c .kind) 0 h) refl)
 
     module _ (h : c .kind ≡ 0 → ⊥) (fz : SFits w64 z) (n : ℕ) (e : n ≡ cond (below (held z) (suc lastSession)) (natOf (held z)) 0)
-        (t : Bool) (et : t ≡ M.hasSlot n (viewSessions (p .sessions))) where
-      slot : M.isSlot z (viewSessions (p .sessions)) ≡ t
-      slot = has-slot p kept z fz n e t et
+        (s : Session) (es : viewSession s ≡ M.session n (viewSessions (p .sessions))) (w : Answer) (ew : Judges (p .sessions) n s w) (t : Bool) (et : t ≡ isRefused (viewAnswer w)) where
+      asks : Asks (λ i. Change i d f k v) (λ i q. conditionsBy (seen q (own i q) (placeOf d f)) q (natOf i) (own i q) (updateOf (placeOf d f) (natOf k) v))
+      unfolding conditions _⇒_
+      asks = record { first-two = λ i l q. rw (good h) refl }
 
-      pub no-slot : not t ≡ true → Answered (refused noSlot)
-      unfolding conditions viewPlant _⇒_
-      no-slot g = refuses (Change z d f k v) lent (chosen (viewPlant p)) (viewPlant p) _ (rw (good h, slot, g) refl)
+      pub turned-away : t ≡ true → Answered (viewAnswer w)
+      turned-away = turned asks p kept z fz n e s es w ew t et lent
 
-      module _ (g : not t ≡ false) (s : Session) (es : viewSession s ≡ M.session n (viewSessions (p .sessions))) (b : Bool) (eb : b ≡ viewSlot s .session .doomed) where
-        its : M.session (natOf z) (viewSessions (p .sessions)) ≡ viewSession s
-        its = its-session p kept z fz n e t et g s es
+      at-place : inRange (placeOf d f) ≡ true
+      at-place =
+          let x = and-true (goodPlace d f) (goodChange k v) (good h) in
+          let y = and-true (below d documentCount) (below f fieldCount) (x .0) in
+          both _ _ (lt-ltb (natOf d) documentCount (below-is d documentCount (y .0))) (lt-ltb (natOf f) fieldCount (below-is f fieldCount (y .1)))
 
-        doomed : sessionAt z (viewPlant p) .doomed ≡ b
-        unfolding viewSlot viewPlant
-        doomed = ap (λ (x : M.Session). x .doomed) its ∙ sym eb
-
-        pub was-doomed : b ≡ true → Answered (refused wasDoomed)
-        unfolding conditions viewPlant _⇒_
-        was-doomed i = refuses (Change z d f k v) lent (chosen (viewPlant p)) (viewPlant p) _ (rw (good h, slot, g, doomed, i) refl)
-
+      module _ (g : t ≡ false) where
         own-is : own z (viewPlant p) ≡ viewChanges (s .changes)
         unfolding viewSession viewPlant
-        own-is = ap (λ (x : M.Session). x .changes) its
+        own-is = ap (λ (x : M.Session). x .changes) (its-session p kept z fz n e s es w ew t et g)
 
-        at-place : inRange (placeOf d f) ≡ true
-        at-place =
-            let x = and-true (goodPlace d f) (goodChange k v) (good h) in
-            let y = and-true (below d documentCount) (below f fieldCount) (x .0) in
-            both _ _ (lt-ltb (natOf d) documentCount (below-is d documentCount (y .0))) (lt-ltb (natOf f) fieldCount (below-is f fieldCount (y .1)))
-
-        pub meeting : b ≡ false → (r : Answer) → viewAnswer r ≡ laterAnswer (sight (p .near) (p .store) (p .keys) (p .cache) (p .sessions) (p .buffer) (p .rows)) n (viewChanges (s .changes)) (viewUpdate c) → Answered (viewAnswer r)
-        unfolding conditions viewPlant _⇒_ accepted laterAnswer
-        meeting i r er =
+        pub meeting : (r : Answer) → viewAnswer r ≡ laterAnswer (sight (p .near) (p .store) (p .keys) (p .cache) (p .sessions) (p .buffer) (p .rows)) n (viewChanges (s .changes)) (viewUpdate c) → Answered (viewAnswer r)
+        unfolding viewPlant accepted laterAnswer
+        meeting r er =
             er
             ∙ same-answer p n (viewChanges (s .changes)) (viewUpdate c)
             ∙ answers-by (Change z d f k v) lent (chosen (viewPlant p)) (viewPlant p) (suc (length (viewChanges (s .changes))) ∷ []) (rw own-is refl)
             (first (laterConditions (viewPlant p) n (viewChanges (s .changes)) (viewUpdate c)))
-            (rw (good h, slot, g, doomed, i, own-is, its-number p kept z fz n e t et g, update-is (good h))
+            (stands asks p kept z fz n e s es w ew t et lent g
+            ∙ rw (own-is, its-number p kept z fz n e s es w ew t et g, update-is (good h))
             (as-seen p kept (viewChanges (s .changes)) (updateOf (placeOf d f) (natOf k) v) at-place
             (leb changeLimit (length (viewChanges (s .changes))) ⇒ changesFull) (M.othersExclusive n (natOf d) (viewSessions (p .sessions)) ⇒ exclusiveElsewhere)))

@@ -99,12 +99,10 @@ pub fn answer(p: Plant, session: i64, document: i64, field: i64, kind: i64, valu
         return Answer::Refused(Refusal::OutOfRange);
     }
     let n = arguments::session(session);
-    if !sessions.has(n) {
-        return Answer::Refused(Refusal::NoSlot);
-    }
     let s = sessions.session(n);
-    if s.is_doomed() {
-        return Answer::Refused(Refusal::WasDoomed);
+    let turned = caller::refusal(sessions, n, s);
+    if turned.is_refused() {
+        return turned;
     }
     later(
         p.near,

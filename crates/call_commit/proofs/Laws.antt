@@ -1,8 +1,9 @@
 -- What commit answers and leaves, one law for each way out.
 use mathlib.Core.Path.{_≡_, refl, sym, _∙_, ap}
-use mathlib.Core.Bool.{Bool, true, false, not, cond}
+use mathlib.Core.Bool.{Bool, true, false, not, cond, _&&_}
 use mathlib.Core.List.{List, [], _∷_, map}
 use Prim.Native.Nat.{ℕ, suc, _<_, _≤_, _+_}
+use lib.Dec.{leb}
 use lib.IntN.{ℤ}
 use lib.ListN.{length, length-append}
 use mir.Syntax.{w64}
@@ -11,11 +12,11 @@ use borrow.Author.Tests.{not-false, le-leb, lt-leb}
 use Rattle.rules.specs.Limits.{lastSession, bufferLimit}
 use Rattle.rules.specs.Lists.{isEmpty, pushed}
 use Rattle.rules.specs.Values.{below, natOf}
-use Rattle.rules.specs.Refusals.{noSlot, wasDoomed, bufferFull, _⇒_}
+use Rattle.rules.specs.Refusals.{noSlot, bufferFull, first, _⇒_}
 use Rattle.rules.specs.Tables as M
 use Rattle.rules.specs.Calls.{Commit, refused, fine}
 use Rattle.rules.specs.Calls as C
-use Rattle.rules.specs.Conditions.{sessionAt, own, conditions}
+use Rattle.rules.specs.Conditions.{own, conditions}
 use Rattle.rules.specs.Effects.{bufferedAfter, upToDate, committed}
 use Rattle.rules.specs.Reading.{current, seen}
 use Rattle.rules.specs.Step.{accepted}
@@ -34,7 +35,7 @@ use Rattle.buffer.specs.batch.View.{viewBatch}
 use Rattle.buffer.specs.View.{viewBuffer}
 use Rattle.buffer.specs.Form.{bufferForm}
 use Rattle.buffer.specs.declared.Buffer.{Buffer}
-use Rattle.sessions.specs.session.View.{viewSession, viewSlot}
+use Rattle.sessions.specs.session.View.{viewSession}
 use Rattle.sessions.specs.session.Form.{leasesForm, sessionForm}
 use Rattle.sessions.specs.declared.session.Session.{Session}
 use Rattle.sessions.specs.View.{viewSessions}
@@ -47,7 +48,7 @@ use Rattle.plant.proofs.Formed.{form-parts, form-with-cache, form-with-sessions
 use Rattle.promises.specs.Promise.{chosen, result, Performs}
 use Rattle.promises.proofs.Telling.{refuses, accepts, none-held, left-accepted}
 use Rattle.promises.proofs.Numbers.{slot-is, number-is}
-use Rattle.caller.proofs.Standing.{has-slot, its-session}
+use Rattle.caller.proofs.Standing.{Asks}
 use Rattle.call_commit.specs.Left.{left}
 
 -- ── the buffer after it ──
@@ -60,59 +61,43 @@ module _ (n : ℕ) (cs : Changes) (e : Bool) (ee : e ≡ isEmpty (viewChanges cs
   one-buffered b r h er = er ∙ rw (sym ee, h) refl
 
 -- ── the answer ──
-module _ (p : Plant) (z : ℤ) (fits : SFits w64 z) (n : ℕ) (e : n ≡ cond (below (held z) (suc lastSession)) (natOf (held z)) 0)
-    (t : Bool) (et : t ≡ M.hasSlot n (viewSessions (p .sessions))) (lent : List ℤ) (k : keptPlant p ≡ true) where
+pub asks : Asks Commit (λ z p. (not (isEmpty (own z p)) && leb bufferLimit (length (p .buffer)) ⇒ bufferFull) ∷ [])
+unfolding conditions
+asks = record { first-two = λ z lent p. refl }
+
+-- where 15 alone is left to ask
+module _ (p : Plant) (z : ℤ) (lent : List ℤ) (s : Session)
+    (stands : first (conditions (Commit z) lent (viewPlant p)) ≡ first ((not (isEmpty (own z (viewPlant p))) && leb bufferLimit (length (viewPlant p .buffer)) ⇒ bufferFull) ∷ []))
+    (its : M.session (natOf z) (viewSessions (p .sessions)) ≡ viewSession s)
+    (c : ℕ) (ec : c ≡ length (viewBuffer (p .buffer))) (b : Bool) (eb : b ≡ isEmpty (viewChanges (s .changes))) where
   abbrev Answered : C.Answer → Type 0
   Answered a = a ≡ result (Commit z) lent p .answer
 
-  slot : M.isSlot z (viewSessions (p .sessions)) ≡ t
-  slot = has-slot p k z fits n e t et
+  bare : isEmpty (own z (viewPlant p)) ≡ b
+  unfolding viewSession viewPlant
+  bare = ap (λ (x : M.Session). isEmpty (x .changes)) its ∙ sym eb
 
-  pub no-slot : not t ≡ true → Answered (refused noSlot)
-  unfolding conditions viewPlant _⇒_
-  no-slot h = refuses (Commit z) lent (chosen (viewPlant p)) (viewPlant p) _ (rw (slot, h) refl)
+  pub nothing-changed : b ≡ true → Answered (fine (c ∷ []))
+  unfolding viewPlant _⇒_ accepted committed
+  nothing-changed f =
+      ap (λ (x : ℕ). fine (x ∷ [])) (ec ∙ rw (bare, f) refl) ∙ accepts (Commit z) lent (chosen (viewPlant p)) (viewPlant p) (stands ∙ rw (bare, f) refl)
 
-  module _ (h : not t ≡ false) (s : Session) (es : viewSession s ≡ M.session n (viewSessions (p .sessions))) (d : Bool) (ed : d ≡ viewSlot s .session .doomed) where
-    its : M.session (natOf z) (viewSessions (p .sessions)) ≡ viewSession s
-    its = its-session p k z fits n e t et h s es
+  module _ (f : b ≡ false) where
+    pub full : bufferLimit ≤ c → Answered (refused bufferFull)
+    unfolding viewPlant _⇒_
+    full l = refuses (Commit z) lent (chosen (viewPlant p)) (viewPlant p) _ (stands ∙ rw (bare, f, sym ec, le-leb bufferLimit c l) refl)
 
-    doomed : sessionAt z (viewPlant p) .doomed ≡ d
-    unfolding viewSlot viewPlant
-    doomed = ap (λ (x : M.Session). x .doomed) its ∙ sym ed
+    one-more : c < bufferLimit → c + 1 ≡ length (bufferedAfter (natOf z) (own z (viewPlant p)) (viewBuffer (p .buffer)))
+    one-more l =
+        let new : M.Batch = record { number = natOf z; changes = own z (viewPlant p) } in
+        let room : length (viewBuffer (p .buffer)) < bufferLimit = rw (sym ec) l in
+        rw (bare, f, pushed-room bufferLimit (viewBuffer (p .buffer)) new room, length-append (viewBuffer (p .buffer)) (new ∷ []), sym ec) refl
 
-    pub was-doomed : d ≡ true → Answered (refused wasDoomed)
-    unfolding conditions viewPlant _⇒_
-    was-doomed g = refuses (Commit z) lent (chosen (viewPlant p)) (viewPlant p) _ (rw (slot, h, doomed, g) refl)
-
-    own-is : own z (viewPlant p) ≡ viewChanges (s .changes)
-    unfolding viewSession viewPlant
-    own-is = ap (λ (x : M.Session). x .changes) its
-
-    module _ (g : d ≡ false) (c : ℕ) (ec : c ≡ length (viewBuffer (p .buffer))) (b : Bool) (eb : b ≡ isEmpty (viewChanges (s .changes))) where
-      bare : isEmpty (own z (viewPlant p)) ≡ b
-      bare = ap isEmpty own-is ∙ sym eb
-
-      pub nothing-changed : b ≡ true → Answered (fine (c ∷ []))
-      unfolding conditions viewPlant _⇒_ accepted committed
-      nothing-changed f =
-          ap (λ (x : ℕ). fine (x ∷ [])) (ec ∙ rw (bare, f) refl) ∙ accepts (Commit z) lent (chosen (viewPlant p)) (viewPlant p) (rw (slot, h, doomed, g, bare, f) refl)
-
-      module _ (f : b ≡ false) where
-        pub full : bufferLimit ≤ c → Answered (refused bufferFull)
-        unfolding conditions viewPlant _⇒_
-        full l = refuses (Commit z) lent (chosen (viewPlant p)) (viewPlant p) _ (rw (slot, h, doomed, g, bare, f, sym ec, le-leb bufferLimit c l) refl)
-
-        one-more : c < bufferLimit → c + 1 ≡ length (bufferedAfter (natOf z) (own z (viewPlant p)) (viewBuffer (p .buffer)))
-        one-more l =
-            let new : M.Batch = record { number = natOf z; changes = own z (viewPlant p) } in
-            let room : length (viewBuffer (p .buffer)) < bufferLimit = rw (sym ec) l in
-            rw (bare, f, pushed-room bufferLimit (viewBuffer (p .buffer)) new room, length-append (viewBuffer (p .buffer)) (new ∷ []), sym ec) refl
-
-        pub buffers : c < bufferLimit → Answered (fine ((c + 1) ∷ []))
-        unfolding conditions viewPlant _⇒_ accepted committed
-        buffers l =
-            ap (λ (x : ℕ). fine (x ∷ [])) (one-more l)
-            ∙ accepts (Commit z) lent (chosen (viewPlant p)) (viewPlant p) (rw (slot, h, doomed, g, bare, f, sym ec, lt-leb bufferLimit c l) refl)
+    pub buffers : c < bufferLimit → Answered (fine ((c + 1) ∷ []))
+    unfolding viewPlant _⇒_ accepted committed
+    buffers l =
+        ap (λ (x : ℕ). fine (x ∷ [])) (one-more l)
+        ∙ accepts (Commit z) lent (chosen (viewPlant p)) (viewPlant p) (stands ∙ rw (bare, f, sym ec, lt-leb bufferLimit c l) refl)
 
 -- ── the plant left ──
 session-changes : (s : Session) → sessionForm s ≡ true → changesForm (s .changes) ≡ true

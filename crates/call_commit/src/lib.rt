@@ -40,12 +40,10 @@ pub fn answer(p: Plant, session: i64) -> Answer
 {
     let n = arguments::session(session);
     let sessions = p.sessions;
-    if !sessions.has(n) {
-        return Answer::Refused(Refusal::NoSlot);
-    }
     let s = sessions.session(n);
-    if s.is_doomed() {
-        return Answer::Refused(Refusal::WasDoomed);
+    let turned = caller::refusal(sessions, n, s);
+    if turned.is_refused() {
+        return turned;
     }
     let count = p.buffer.len();
     if s.changes.is_empty() {

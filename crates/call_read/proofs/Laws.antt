@@ -43,9 +43,7 @@ use Rattle.plant.specs.View.{viewPlant, keptPlant, plantForm}
 use Rattle.plant.specs.declared.Plant.{Plant}
 use Rattle.plant.proofs.PlantLaws.{kept-parts}
 use Rattle.plant.proofs.Formed.{form-with-cache, form-with-sessions}
-use Rattle.answers.specs.View.{viewAnswer, viewMark, isRefused, answerBy}
-use Rattle.answers.specs.Own.{isAnswerOf}
-use Rattle.answers.proofs.Own.{refused-own}
+use Rattle.answers.specs.View.{viewAnswer, viewMark, answerBy, isRefused}
 use Rattle.answers.specs.declared.Answer.{Answer}
 use Rattle.answers.specs.declared.Mark.{Mark}
 use Rattle.promises.specs.Promise.{chosen, result, Answers, Performs}
@@ -132,9 +130,6 @@ module _ (p : Plant) (h : keptPlant p ≡ true) (n k : ℕ) (lent : List ℤ) (m
       let qs : List S.Place = viewPlant p .keys k in
       let l : wordsPerField * length qs ≤ length lent = ltb-false (length lent) (wordsPerField * length qs) (not-met _ fewWords (m .1 .1 .1 .1 .0)) in
       rw (e ∙ fields-are, length-map qs (seen (viewPlant p) (ownOf n (viewPlant p))), le-leb (wordsPerField * length qs) (length lent) l) refl
-
-pub own-refusal : (z y : ℤ) (a : Answer) (r : Bool) → r ≡ isRefused (viewAnswer a) → r ≡ true → isAnswerOf (Read z y) a ≡ true
-own-refusal z y a r er t = refused-own (Read z y) a (sym er ∙ t)
 
 -- ── the answer and the words ──
 module _ (p : Plant) (z : ℤ) (fz : SFits w64 z) (n : ℕ) (en : n ≡ cond (below (held z) (suc lastSession)) (natOf (held z)) 0)

@@ -75,12 +75,10 @@ pub fn refusal(
     if Keys::LIMIT <= k as usize {
         return Answer::Refused(Refusal::OutOfRange);
     }
-    if !sessions.has(n) {
-        return Answer::Refused(Refusal::NoSlot);
-    }
     let s = sessions.session(n);
-    if s.is_doomed() {
-        return Answer::Refused(Refusal::WasDoomed);
+    let turned = caller::refusal(sessions, n, s);
+    if turned.is_refused() {
+        return turned;
     }
     let key = keys.key(k);
     if key.is_empty() {

@@ -7,7 +7,6 @@ ghost use Rattle.rules.specs.Calls.{Report};
 ghost use Rattle.answers.specs.Own.{isAnswerOf};
 ghost use Rattle.promises.specs.Promise.{Answers};
 use answers::Answer;
-use answers::Refusal;
 use plant::Plant;
 
 pub fn answer(p: Plant, session: i64) -> Answer
@@ -16,12 +15,10 @@ pub fn answer(p: Plant, session: i64) -> Answer
 {
     let n = arguments::session(session);
     let sessions = p.sessions;
-    if !sessions.has(n) {
-        return Answer::Refused(Refusal::NoSlot);
-    }
     let s = sessions.session(n);
-    if s.is_doomed() {
-        return Answer::Refused(Refusal::WasDoomed);
+    let turned = caller::refusal(sessions, n, s);
+    if turned.is_refused() {
+        return turned;
     }
     let shared = s.shared_count();
     let exclusive = s.exclusive_count();

@@ -1,67 +1,129 @@
--- The session that a caller's number names, as the code looks it up, and the refusals 2 and 3 of a call that asks for them first.
+-- Whether a session may call, one law for each way out of `refusal`, and what a call of a session learns by it.
 use mathlib.Core.Path.{_≡_, refl, sym, _∙_, ap}
-use mathlib.Core.Bool.{Bool, true, false, not, cond}
-use mathlib.Core.Option.{Option}
-use mathlib.Core.List.{List, _∷_}
-use Prim.Native.Nat.{ℕ, suc}
+use mathlib.Core.Bool.{Bool, true, false, not, true≢false}
+use mathlib.Core.Option.{Option, none, some}
+use mathlib.Core.List.{List, [], _∷_, _++_}
+use Prim.Native.Nat.{ℕ}
+use lib.Dec.{eqb}
 use lib.IntN.{ℤ}
 use mir.Syntax.{w64}
 use mir.Val.{SFits}
 use borrow.Author.Tests.{not-false}
-use Rattle.rules.specs.Limits.{lastSession}
-use Rattle.rules.specs.Values.{below, natOf}
+use Rattle.rules.specs.Values.{natOf}
 use Rattle.rules.specs.Refusals.{Refusal, noSlot, wasDoomed, first, _⇒_}
 use Rattle.rules.specs.Tables as M
-use Rattle.rules.specs.Calls.{Call, refused}
+use Rattle.rules.specs.Calls.{Call, refused, fine}
+use Rattle.rules.specs.Calls as C
 use Rattle.rules.specs.Conditions.{sessionAt, conditions}
+use Rattle.rules.proofs.Laws.{byCase}
+use Rattle.arguments.specs.Numbers.{sessionNumber}
 use Rattle.arguments.proofs.Numbers.{held}
 use Rattle.sessions.specs.session.View.{viewSession, viewSlot}
 use Rattle.sessions.specs.declared.session.Session.{Session}
 use Rattle.sessions.specs.View.{viewSessions}
+use Rattle.sessions.specs.declared.Sessions.{Sessions}
 use Rattle.plant.specs.View.{viewPlant, keptPlant}
 use Rattle.plant.specs.declared.Plant.{Plant}
 use Rattle.plant.proofs.PlantLaws.{kept-parts}
+use Rattle.answers.specs.View.{viewAnswer, answerBy, isRefused}
+use Rattle.answers.specs.declared.Answer.{Answer}
 use Rattle.promises.specs.Promise.{chosen, result}
-use Rattle.promises.proofs.Telling.{refuses}
+use Rattle.promises.proofs.Telling.{refuses-by}
 use Rattle.promises.proofs.Numbers.{slot-is, number-is}
+use Rattle.caller.specs.Standing.{standing, Judges}
+
+-- ── the ways out of `refusal` ──
+-- what is found for a number without a slot is doomed
+absent-doomed : (n : ℕ) (l : List M.Slot) → M.session n l .doomed ≡ false → M.hasSlot n l ≡ true
+absent-doomed n [] d = absurd (true≢false d)
+absent-doomed n (x ∷ l) d = byCase (eqb n (x .number)) (λ b. rw b refl) (λ b. rw b (absent-doomed n l (rw b at d)))
+
+module _ (t : Sessions) (n : ℕ) (s : Session) (d : Bool) (ed : d ≡ viewSlot s .session .doomed) (es : viewSession s ≡ M.session n (viewSessions t)) where
+  abbrev Judged : C.Answer → Type 0
+  Judged a = a ≡ answerBy (first (standing n (viewSessions t))) []
+
+  doomed-is : M.session n (viewSessions t) .doomed ≡ d
+  unfolding viewSlot
+  doomed-is = ap (λ (x : M.Session). x .doomed) (sym es) ∙ sym ed
+
+  pub may-call : not d ≡ true → Judged (fine [])
+  unfolding _⇒_
+  may-call g =
+      let live : M.session n (viewSessions t) .doomed ≡ false = doomed-is ∙ not-true d g in
+      rw (live, absent-doomed n (viewSessions t) live) refl
+    where
+      not-true : (b : Bool) → not b ≡ true → b ≡ false
+      not-true true e = absurd (true≢false (sym e))
+      not-true false e = refl
+
+  module _ (h : Bool) (eh : h ≡ M.hasSlot n (viewSessions t)) where
+    pub has-none : not h ≡ true → Judged (refused noSlot)
+    unfolding _⇒_
+    has-none g = rw (sym eh, g) refl
+
+    pub was-doomed : not d ≡ false → not h ≡ false → Judged (refused wasDoomed)
+    unfolding _⇒_
+    was-doomed i g = rw (sym eh, g, doomed-is, not-false d i) refl
+
+-- ── what a call learns ──
+none-refuses : (b d : Bool) → isRefused (answerBy (first ((not b ⇒ noSlot) ∷ (d ⇒ wasDoomed) ∷ [])) []) ≡ false → (b ≡ true) × (d ≡ false)
+unfolding _⇒_
+none-refuses true true e = absurd (true≢false e)
+none-refuses true false e = (refl, refl)
+none-refuses false d e = absurd (true≢false e)
+
+one-refuses : (x y : Option Refusal) (l : List (Option Refusal)) (ns : List ℕ) → isRefused (answerBy (first (x ∷ y ∷ [])) []) ≡ true → answerBy (first (x ∷ y ∷ [])) [] ≡ answerBy (first (x ∷ y ∷ l)) ns
+one-refuses none none l ns e = absurd (true≢false (sym e))
+one-refuses none (some r) l ns e = refl
+one-refuses (some r) y l ns e = refl
+
+module _ (t : Sessions) (n : ℕ) (s : Session) (es : viewSession s ≡ M.session n (viewSessions t)) (a : Answer) (ea : Judges t n s a) (r : Bool) (er : r ≡ isRefused (viewAnswer a)) where
+  judged : isRefused (answerBy (first (standing n (viewSessions t))) []) ≡ r
+  judged = ap isRefused (sym (ea es)) ∙ sym er
+
+  -- whatever conditions come after
+  pub turned-first : r ≡ true → (later : List (Option Refusal)) (ns : List ℕ) → viewAnswer a ≡ answerBy (first (standing n (viewSessions t) ++ later)) ns
+  turned-first h later ns = ea es ∙ one-refuses (not (M.hasSlot n (viewSessions t)) ⇒ noSlot) (M.session n (viewSessions t) .doomed ⇒ wasDoomed) later ns (judged ∙ h)
+
+  pub is-open : r ≡ false → (M.hasSlot n (viewSessions t) ≡ true) × (M.session n (viewSessions t) .doomed ≡ false)
+  is-open h = none-refuses (M.hasSlot n (viewSessions t)) (M.session n (viewSessions t) .doomed) (judged ∙ h)
+
+-- ── on a kept plant the caller's number z names the session ──
+module _ (p : Plant) (k : keptPlant p ≡ true) (z : ℤ) (fits : SFits w64 z) (n : ℕ) (e : n ≡ sessionNumber (held z)) where
+  same-standing : (later : List (Option Refusal)) → first ((not (M.isSlot z (viewSessions (p .sessions))) ⇒ noSlot) ∷ (M.session (natOf z) (viewSessions (p .sessions)) .doomed ⇒ wasDoomed) ∷ later)
+      ≡ first (standing n (viewSessions (p .sessions)) ++ later)
+  unfolding viewPlant _⇒_
+  same-standing later =
+      let i : M.isSlot z (viewSessions (p .sessions)) ≡ M.hasSlot n (viewSessions (p .sessions)) = slot-is (viewPlant p) (kept-parts p k) z fits n e in
+      byCase (M.hasSlot n (viewSessions (p .sessions)))
+      (λ h. let q : natOf z ≡ n = number-is (viewPlant p) (kept-parts p k) z fits n e h in rw (i, q) refl)
+      (λ h. rw (i, h) refl)
 
 -- a call of session z that asks first for 2 and 3, and then what comes after them
 pub record Asks (c : ℤ → Call) (later : ℤ → M.Plant → List (Option Refusal)) : Type 0 where
   pub first-two : (z : ℤ) (lent : List ℤ) (p : M.Plant)
       → first (conditions (c z) lent p) ≡ first ((not (M.isSlot z (p .slots)) ⇒ noSlot) ∷ (sessionAt z p .doomed ⇒ wasDoomed) ∷ later z p)
 
-module _ (p : Plant) (k : keptPlant p ≡ true) (z : ℤ) (fits : SFits w64 z) (n : ℕ) (e : n ≡ cond (below (held z) (suc lastSession)) (natOf (held z)) 0)
-    (t : Bool) (et : t ≡ M.hasSlot n (viewSessions (p .sessions))) where
-  pub has-slot : M.isSlot z (viewSessions (p .sessions)) ≡ t
+module _ (p : Plant) (k : keptPlant p ≡ true) (z : ℤ) (fits : SFits w64 z) (n : ℕ) (e : n ≡ sessionNumber (held z))
+    (s : Session) (es : viewSession s ≡ M.session n (viewSessions (p .sessions))) (a : Answer) (ea : Judges (p .sessions) n s a) (r : Bool) (er : r ≡ isRefused (viewAnswer a)) where
+  pub its-number : r ≡ false → natOf z ≡ n
   unfolding viewPlant
-  has-slot = slot-is (viewPlant p) (kept-parts p k) z fits n e ∙ sym et
+  its-number h = number-is (viewPlant p) (kept-parts p k) z fits n e (is-open (p .sessions) n s es a ea r er h .0)
 
-  module _ (h : not t ≡ false) where
-    pub its-number : natOf z ≡ n
-    unfolding viewPlant
-    its-number = number-is (viewPlant p) (kept-parts p k) z fits n e (sym et ∙ not-false t h)
+  pub its-session : r ≡ false → M.session (natOf z) (viewSessions (p .sessions)) ≡ viewSession s
+  its-session h = ap (λ (m : ℕ). M.session m (viewSessions (p .sessions))) (its-number h) ∙ sym es
 
-    pub its-session : (s : Session) → viewSession s ≡ M.session n (viewSessions (p .sessions)) → M.session (natOf z) (viewSessions (p .sessions)) ≡ viewSession s
-    its-session s es = ap (λ (m : ℕ). M.session m (viewSessions (p .sessions))) its-number ∙ sym es
+module _ {c : ℤ → Call} {later : ℤ → M.Plant → List (Option Refusal)} (asks : Asks c later) (p : Plant) (k : keptPlant p ≡ true) (z : ℤ) (fits : SFits w64 z) (n : ℕ) (e : n ≡ sessionNumber (held z))
+    (s : Session) (es : viewSession s ≡ M.session n (viewSessions (p .sessions))) (a : Answer) (ea : Judges (p .sessions) n s a) (r : Bool) (er : r ≡ isRefused (viewAnswer a)) (lent : List ℤ) where
+  asked : first (conditions (c z) lent (viewPlant p)) ≡ first (standing n (viewSessions (p .sessions)) ++ later z (viewPlant p))
+  unfolding viewPlant
+  asked = asks .first-two z lent (viewPlant p) ∙ same-standing p k z fits n e (later z (viewPlant p))
 
-module _ {c : ℤ → Call} {later : ℤ → M.Plant → List (Option Refusal)} (a : Asks c later)
-    (p : Plant) (z : ℤ) (fits : SFits w64 z) (n : ℕ) (e : n ≡ cond (below (held z) (suc lastSession)) (natOf (held z)) 0)
-    (t : Bool) (et : t ≡ M.hasSlot n (viewSessions (p .sessions))) (lent : List ℤ) (k : keptPlant p ≡ true) where
-  pub no-slot : not t ≡ true → refused noSlot ≡ result (c z) lent p .answer
-  unfolding viewPlant _⇒_
-  no-slot h = refuses (c z) lent (chosen (viewPlant p)) (viewPlant p) _ (a .first-two z lent (viewPlant p) ∙ rw (has-slot p k z fits n e t et, h) refl)
+  pub turned : r ≡ true → viewAnswer a ≡ result (c z) lent p .answer
+  turned h =
+      let q = turned-first (p .sessions) n s es a ea r er h (later z (viewPlant p)) [] in
+      q ∙ refuses-by (c z) lent (chosen (viewPlant p)) (viewPlant p) [] (first (standing n (viewSessions (p .sessions)) ++ later z (viewPlant p))) (ap isRefused (sym q) ∙ sym er ∙ h) asked
 
-  module _ (h : not t ≡ false) (s : Session) (es : viewSession s ≡ M.session n (viewSessions (p .sessions))) (d : Bool) (ed : d ≡ viewSlot s .session .doomed) where
-    asked : first (conditions (c z) lent (viewPlant p)) ≡ first ((d ⇒ wasDoomed) ∷ later z (viewPlant p))
-    unfolding viewPlant viewSlot _⇒_
-    asked =
-        a .first-two z lent (viewPlant p)
-        ∙ rw (has-slot p k z fits n e t et, h, ap (λ (x : M.Session). x .doomed) (its-session p k z fits n e t et h s es), sym ed) refl
-
-    pub was-doomed : d ≡ true → refused wasDoomed ≡ result (c z) lent p .answer
-    unfolding _⇒_
-    was-doomed g = refuses (c z) lent (chosen (viewPlant p)) (viewPlant p) _ (asked ∙ rw g refl)
-
-    pub stands : d ≡ false → first (conditions (c z) lent (viewPlant p)) ≡ first (later z (viewPlant p))
-    unfolding _⇒_
-    stands g = asked ∙ rw g refl
+  pub stands : r ≡ false → first (conditions (c z) lent (viewPlant p)) ≡ first (later z (viewPlant p))
+  unfolding _⇒_
+  stands h = let o = is-open (p .sessions) n s es a ea r er h in asked ∙ rw (o .0, o .1) refl

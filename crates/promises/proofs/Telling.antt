@@ -28,6 +28,10 @@ module _ (c : Call) (lent : List ℤ) (pick : Pick) (p : M.Plant) where
   answers-by ns a none e = sym a ∙ accepts e
   answers-by ns a (some r) e = refuses r e
 
+  pub refuses-by : (ns : List ℕ) (o : Option Refusal) → isRefused (answerBy o ns) ≡ true → first (conditions c lent p) ≡ o → answerBy o ns ≡ step c lent pick p .answer
+  refuses-by ns none h e = absurd (true≢false (sym h))
+  refuses-by ns (some r) h e = refuses r e
+
   -- ── from the answer ──
   pub none-held : (a : Answer) → a ≡ step c lent pick p .answer → isRefused a ≡ false → NoneMet (conditions c lent p)
   unfolding step

@@ -1,14 +1,14 @@
 -- Who is turned away from a read: one law for each way out.
-use mathlib.Core.Path.{_≡_, refl, sym, _∙_, ap}
+use mathlib.Core.Path.{_≡_, refl, sym, ap}
 use mathlib.Core.Bool.{Bool, true, false, not}
 use mathlib.Core.List.{List, [], _∷_}
 use Prim.Native.Nat.{ℕ, _*_, _≤_, _<_}
 use lib.IntN.{ℤ, pos}
-use lib.ListN.{length}
+use lib.ListN.{drop, length}
 use borrow.Author.Tests.{lt-ltb, le-ltb}
 use Rattle.rules.specs.Limits.{keyCount, wordsPerField}
 use Rattle.rules.specs.Lists.{any, isEmpty}
-use Rattle.rules.specs.Refusals.{outOfRange, noSlot, wasDoomed, keyUndefined, fewWords, exclusiveElsewhere, storeAway, first, _⇒_}
+use Rattle.rules.specs.Refusals.{outOfRange, keyUndefined, fewWords, exclusiveElsewhere, storeAway, first, _⇒_}
 use Rattle.rules.specs.Tables as M
 use Rattle.rules.specs.Reading.{knownAway}
 use Rattle.rules.specs.Calls.{Read, Answer, refused, fine}
@@ -17,7 +17,7 @@ use Rattle.keys.specs.View.{viewKey, viewKeys}
 use Rattle.keys.specs.declared.Keys.{Keys}
 use Rattle.keys.specs.declared.Key.{Key}
 use Rattle.changes.specs.View.{viewChanges}
-use Rattle.sessions.specs.session.View.{viewSession, viewSlot}
+use Rattle.sessions.specs.session.View.{viewSession}
 use Rattle.sessions.specs.declared.session.Session.{Session}
 use Rattle.sessions.specs.View.{viewSessions}
 use Rattle.sessions.specs.declared.Sessions.{Sessions}
@@ -25,7 +25,10 @@ use Rattle.buffer.specs.View.{viewBuffer}
 use Rattle.buffer.specs.declared.Buffer.{Buffer}
 use Rattle.cache.specs.View.{viewCache}
 use Rattle.cache.specs.declared.Cache.{Cache}
-use Rattle.answers.specs.View.{answerBy}
+use Rattle.answers.specs.View.{viewAnswer, answerBy, isRefused}
+use Rattle.answers.specs.declared.Answer as D
+use Rattle.caller.specs.Standing.{Judges}
+use Rattle.caller.proofs.Standing.{turned-first, is-open}
 use Rattle.sight.specs.Sight.{sightAway}
 
 nobody : {A : Type 0} (l : List A) → any (λ a. false) l ≡ false
@@ -40,49 +43,47 @@ module _ (near : Bool) (keys : Keys) (cache : Cache) (sessions : Sessions) (buff
   unfolding conditions sightAway _⇒_
   out-of-range h = rw (le-ltb k keyCount h) refl
 
-  module _ (h : k < keyCount) (t : Bool) (et : t ≡ M.hasSlot n (viewSessions sessions)) where
-    pub no-slot : not t ≡ true → Turned (refused noSlot)
+  module _ (h : k < keyCount) (s : Session) (es : viewSession s ≡ M.session n (viewSessions sessions)) (a : D.Answer) (ea : Judges sessions n s a) (t : Bool) (et : t ≡ isRefused (viewAnswer a)) where
+    pub turned : t ≡ true → Turned (viewAnswer a)
     unfolding conditions sightAway _⇒_
-    no-slot g = rw (lt-ltb k keyCount h, sym et, g) refl
+    turned g = rw (lt-ltb k keyCount h) (turned-first sessions n s es a ea t et g (drop 3 (conditions (Read (pos n) (pos k)) words (sightAway near keys cache sessions buffer))) [])
 
-    module _ (g : not t ≡ false) (s : Session) (es : viewSession s ≡ M.session n (viewSessions sessions)) (d : Bool) (ed : d ≡ viewSlot s .session .doomed) where
-      doomed : M.session n (viewSessions sessions) .doomed ≡ d
-      unfolding viewSlot
-      doomed = ap (λ (x : M.Session). x .doomed) (sym es) ∙ sym ed
+    module _ (g : t ≡ false) where
+      has : M.hasSlot n (viewSessions sessions) ≡ true
+      has = is-open sessions n s es a ea t et g .0
+
+      live : M.session n (viewSessions sessions) .doomed ≡ false
+      live = is-open sessions n s es a ea t et g .1
 
       own-is : M.session n (viewSessions sessions) .changes ≡ viewChanges (s .changes)
       unfolding viewSession
       own-is = ap (λ (x : M.Session). x .changes) (sym es)
 
-      pub was-doomed : d ≡ true → Turned (refused wasDoomed)
-      unfolding conditions sightAway _⇒_
-      was-doomed f = rw (lt-ltb k keyCount h, sym et, g, doomed, f) refl
-
-      module _ (f : d ≡ false) (key : Key) (ek : viewKey key ≡ viewKeys keys k) (b : Bool) (eb : b ≡ isEmpty (viewKey key)) where
+      module _ (key : Key) (ek : viewKey key ≡ viewKeys keys k) (b : Bool) (eb : b ≡ isEmpty (viewKey key)) where
         pub undefined : b ≡ true → Turned (refused keyUndefined)
         unfolding conditions sightAway _⇒_
-        undefined u = rw (lt-ltb k keyCount h, sym et, g, doomed, f, sym ek, sym eb, u) refl
+        undefined u = rw (lt-ltb k keyCount h, has, live, sym ek, sym eb, u) refl
 
         module _ (u : b ≡ false) (lent : ℕ) (el : lent ≡ length words) (m : ℕ) (em : m ≡ length (viewKey key)) where
           pub few-words : lent < wordsPerField * m → Turned (refused fewWords)
           unfolding conditions sightAway _⇒_
-          few-words w = rw (lt-ltb k keyCount h, sym et, g, doomed, f, sym ek, sym eb, u, sym el, sym em, lt-ltb lent (wordsPerField * m) w) refl
+          few-words w = rw (lt-ltb k keyCount h, has, live, sym ek, sym eb, u, sym el, sym em, lt-ltb lent (wordsPerField * m) w) refl
 
           module _ (w : wordsPerField * m ≤ lent) (x : Bool) (ex : x ≡ any (λ q. M.othersExclusive n (q .document) (viewSessions sessions)) (viewKey key)) where
             pub elsewhere : x ≡ true → Turned (refused exclusiveElsewhere)
             unfolding conditions sightAway _⇒_
-            elsewhere v = rw (lt-ltb k keyCount h, sym et, g, doomed, f, sym ek, sym eb, u, sym el, sym em, le-ltb lent (wordsPerField * m) w, sym ex, v) refl
+            elsewhere v = rw (lt-ltb k keyCount h, has, live, sym ek, sym eb, u, sym el, sym em, le-ltb lent (wordsPerField * m) w, sym ex, v) refl
 
             module _ (v : x ≡ false) where
               pub is-near : near ≡ true → Turned (fine [])
               unfolding conditions sightAway _⇒_
-              is-near o = rw (lt-ltb k keyCount h, sym et, g, doomed, f, sym ek, sym eb, u, sym el, sym em, le-ltb lent (wordsPerField * m) w, sym ex, v, o, nobody (viewKey key)) refl
+              is-near o = rw (lt-ltb k keyCount h, has, live, sym ek, sym eb, u, sym el, sym em, le-ltb lent (wordsPerField * m) w, sym ex, v, o, nobody (viewKey key)) refl
 
               module _ (o : near ≡ false) (y : Bool) (ey : y ≡ any (λ q. not (knownAway (viewKeys keys) (viewCache cache) (viewBuffer buffer) (viewChanges (s .changes)) q)) (viewKey key)) where
                 pub away : y ≡ true → Turned (refused storeAway)
                 unfolding conditions sightAway _⇒_
-                away i = rw (lt-ltb k keyCount h, sym et, g, doomed, f, sym ek, sym eb, u, sym el, sym em, le-ltb lent (wordsPerField * m) w, sym ex, v, o, own-is, sym ey, i) refl
+                away i = rw (lt-ltb k keyCount h, has, live, sym ek, sym eb, u, sym el, sym em, le-ltb lent (wordsPerField * m) w, sym ex, v, o, own-is, sym ey, i) refl
 
                 pub known : y ≡ false → Turned (fine [])
                 unfolding conditions sightAway _⇒_
-                known i = rw (lt-ltb k keyCount h, sym et, g, doomed, f, sym ek, sym eb, u, sym el, sym em, le-ltb lent (wordsPerField * m) w, sym ex, v, o, own-is, sym ey, i) refl
+                known i = rw (lt-ltb k keyCount h, has, live, sym ek, sym eb, u, sym el, sym em, le-ltb lent (wordsPerField * m) w, sym ex, v, o, own-is, sym ey, i) refl

@@ -2,7 +2,8 @@
 use mathlib.Core.Path.{refl, sym, _∙_}
 use mathlib.Core.Bool.{true≢false}
 use Rattle.plant.proofs.Formed.{form-parts}
-use Rattle.call_read.proofs.Laws.{turned-away, none-touched, own-refusal, turned-found, shown-found, marked, filled, shown-so}
+use Rattle.answers.proofs.Own.{own-refusal}
+use Rattle.call_read.proofs.Laws.{turned-away, none-touched, turned-found, shown-found, marked, filled, shown-so}
 use borrow.Author.Needs.{needs}
 use Rattle.call_read.proofs.ask.Statement.{statement}
 use Rattle.call_read.proofs.ask.Tie as tie

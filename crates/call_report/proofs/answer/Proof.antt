@@ -1,7 +1,7 @@
 -- `answer` meets its contract.
 use Rattle.call_report.proofs.Laws.{asks, reports}
-use Rattle.caller.proofs.Standing.{its-session, no-slot, was-doomed, stands}
-use mathlib.Core.Path.{refl}
+use Rattle.caller.proofs.Standing.{its-session, turned, stands}
+use Rattle.answers.proofs.Own.{own-refusal}
 use borrow.Author.Needs.{needs}
 use Rattle.call_report.proofs.answer.Statement.{statement}
 use Rattle.call_report.proofs.answer.Tie as tie
@@ -9,20 +9,17 @@ use Rattle.call_report.proofs.answer.Tie as tie
 session-requires : tie.Need-session-requires
 session-requires c κs = search needs
 
-has-requires : tie.Need-has-requires
-has-requires c κs = search needs
-
-returns : tie.Need-returns
-returns c = search (no-slot asks, refl, needs)
-
 session-requires-2 : tie.Need-session-requires-2
 session-requires-2 c κs = search needs
 
-is-doomed-requires : tie.Need-is-doomed-requires
-is-doomed-requires c κs = search needs
+refusal-requires : tie.Need-refusal-requires
+refusal-requires c κs = search needs
 
-returns-2 : tie.Need-returns-2
-returns-2 c = search (was-doomed asks, refl, needs)
+is-refused-requires : tie.Need-is-refused-requires
+is-refused-requires c κs = search needs
+
+returns : tie.Need-returns
+returns c = (search (turned asks, c .before .before .refusal .ensures, needs), search (own-refusal, needs))
 
 shared-count-requires : tie.Need-shared-count-requires
 shared-count-requires c κs = search needs
@@ -33,20 +30,19 @@ exclusive-count-requires c κs = search needs
 len-requires : tie.Need-len-requires
 len-requires c κs = search needs
 
-returns-3 : tie.Need-returns-3
-returns-3 c = search (reports, stands asks, its-session, refl, needs)
+returns-2 : tie.Need-returns-2
+returns-2 c = search (reports, stands asks, its-session, c .before .before .before .before .before .refusal .ensures, needs)
 
 pub answer-spec : {M : Type 1} → statement M
 answer-spec =
     tie.close
     (tie.spec
     session-requires
-    has-requires
-    returns
     session-requires-2
-    is-doomed-requires
-    returns-2
+    refusal-requires
+    is-refused-requires
+    returns
     shared-count-requires
     exclusive-count-requires
     len-requires
-    returns-3)
+    returns-2)

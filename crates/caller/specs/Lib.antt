@@ -1,0 +1,2 @@
+-- Whether a session may call.
+pub mod Standing
