@@ -46,13 +46,13 @@ module _ (z : ℤ) (w : SFits w64 z) where
 
   pub gives-past : (k other : ℕ) → ltZ (held z) (pos 0) ≡ false → k ≤ natAbs (held z) → other ≡ cond (below z k) (natOf z) other
   gives-past k other h l = large-out z k other (rw (toZ-ofZ w) at h) (rw (toZ-ofZ w) at l)
-      -- what a caller of `session` learns
 
+  -- what a caller of `session` learns
   pub session-is : (n : ℕ) → n ≡ sessionNumber (held z) → n ≡ sessionNumber z
   session-is n e = e ∙ ap sessionNumber (toZ-ofZ w)
 
 -- ── what a caller of `index` learns ──
-found : (z : ℤ) (k : ℕ) → cond (below z k) (natOf z) k < k → (below z k ≡ true) × (cond (below z k) (natOf z) k ≡ natOf z)
+found : (z : ℤ) (k : ℕ) → indexNumber z k < k → (below z k ≡ true) × (indexNumber z k ≡ natOf z)
 found (pos n) k l = go (ltb n k) refl l
   where
     go : (b : Bool) → b ≡ ltb n k → cond b n k < k → (b ≡ true) × (cond b n k ≡ n)
@@ -60,7 +60,7 @@ found (pos n) k l = go (ltb n k) refl l
     go false e h = absurd (omega (arith, h))
 found (negsuc n) k l = absurd (omega (arith, l))
 
-missed : (z : ℤ) (k : ℕ) → k ≤ cond (below z k) (natOf z) k → below z k ≡ false
+missed : (z : ℤ) (k : ℕ) → k ≤ indexNumber z k → below z k ≡ false
 missed (pos n) k l = go (ltb n k) (ltb-true n k) l
   where
     go : (b : Bool) → (b ≡ true → n < k) → k ≤ cond b n k → b ≡ false

@@ -22,6 +22,7 @@ use Rattle.rules.specs.Step.{accepted}
 use Rattle.rules.proofs.Laws.{byCase, not-met}
 use Rattle.promises.specs.Promise.{chosen, result, Performs}
 use Rattle.promises.proofs.Telling.{refuses, accepts, none-held, left-accepted}
+use Rattle.arguments.specs.Numbers.{indexNumber}
 use Rattle.arguments.proofs.Numbers.{held, outside, inside, inside-is, index-is}
 use Rattle.docset.specs.Sets.{docs}
 use Rattle.keys.specs.View.{viewKeys}
@@ -60,7 +61,7 @@ module _ (k now : ℕ) (e : now ≡ cond (ltb lastTick k) (suc lastTick) k) wher
   is-later : ltb lastTick k ≡ false → now ≡ k
   is-later t = rw t at e
 
-module _ (p : Plant) (z : ℤ) (fits : SFits w64 z) (n : ℕ) (e : n ≡ cond (below (held z) (suc advanceLimit)) (natOf (held z)) (suc advanceLimit)) (lent : List ℤ) (kept : keptPlant p ≡ true) where
+module _ (p : Plant) (z : ℤ) (fits : SFits w64 z) (n : ℕ) (e : n ≡ indexNumber (held z) (suc advanceLimit)) (lent : List ℤ) (kept : keptPlant p ≡ true) where
   abbrev Answered : C.Answer → Type 0
   Answered a = a ≡ result (Advance z) lent p .answer
 
@@ -87,7 +88,7 @@ module _ (p : Plant) (z : ℤ) (fits : SFits w64 z) (n : ℕ) (e : n ≡ cond (b
         ∙ accepts (Advance z) lent (chosen (viewPlant p)) (viewPlant p) (rw (in-range, ticks-are, w) refl)
 
 -- ── the plant left ──
-module _ (p : Plant) (z : ℤ) (fits : SFits w64 z) (n : ℕ) (e : n ≡ cond (below (held z) (suc advanceLimit)) (natOf (held z)) (suc advanceLimit))
+module _ (p : Plant) (z : ℤ) (fits : SFits w64 z) (n : ℕ) (e : n ≡ indexNumber (held z) (suc advanceLimit))
     (now : ℕ) (en : now ≡ cond (ltb lastTick (p .clock + n)) (suc lastTick) (p .clock + n))
     (lost : ℕ) (el : docs lost ≡ isLost now (viewSessions (p .sessions)))
     (ca : Cache) (ec : viewCache ca ≡ keep (stays (docs lost) (viewKeys (p .keys))) (viewCache (p .cache)))

@@ -29,7 +29,9 @@ use Rattle.rules.proofs.Buffer.{and-false}
 use Rattle.rules.proofs.KeptTest.{kept-iff}
 use Rattle.answers.specs.View.{isRefused}
 use Rattle.promises.specs.Promise.{chosen, result, Performs}
+use Rattle.promises.proofs.Worker.{hand-at}
 use Rattle.promises.proofs.Telling.{refuses, accepts, none-held, left-accepted}
+use Rattle.arguments.specs.Numbers.{indexNumber}
 use Rattle.arguments.proofs.Numbers.{held, outside, inside, inside-is, index-is, index-lt}
 use Rattle.changes.specs.View.{viewChanges}
 use Rattle.changes.specs.declared.Changes.{Changes}
@@ -94,7 +96,7 @@ module _ (rows : List ℕ) (n f : ℕ) where
     told-done h m em l = rw (e, ← eb, h, ← em, lt-leb rowLimit m l) refl
 
 -- ── what is answered ──
-module _ (p : Plant) (z y : ℤ) (fz : SFits w64 z) (w : ℕ) (ew : w ≡ cond (below (held z) workerCount) (natOf (held z)) workerCount) (lent : List ℤ) (kept : keptPlant p ≡ true) where
+module _ (p : Plant) (z y : ℤ) (fz : SFits w64 z) (w : ℕ) (ew : w ≡ indexNumber (held z) workerCount) (lent : List ℤ) (kept : keptPlant p ≡ true) where
   abbrev Answered : C.Answer → Type 0
   Answered a = a ≡ result (Apply z y) lent p .answer
 
@@ -102,7 +104,7 @@ module _ (p : Plant) (z y : ℤ) (fz : SFits w64 z) (w : ℕ) (ew : w ≡ cond (
   unfolding conditions _⇒_
   no-worker l = refuses (Apply z y) lent (chosen (viewPlant p)) (viewPlant p) _ (rw (outside z fz workerCount w ew l) refl)
 
-  module _ (lw : w < workerCount) (fy : SFits w64 y) (f : ℕ) (ef : f ≡ cond (below (held y) fateCount) (natOf (held y)) fateCount) where
+  module _ (lw : w < workerCount) (fy : SFits w64 y) (f : ℕ) (ef : f ≡ indexNumber (held y) fateCount) where
     pub no-fate : fateCount ≤ f → Answered (refused outOfRange)
     unfolding conditions _⇒_
     no-fate l = refuses (Apply z y) lent (chosen (viewPlant p)) (viewPlant p) _ (rw (inside z fz workerCount w ew lw, good-below y, outside y fy fateCount f ef l) refl)
@@ -112,7 +114,7 @@ module _ (p : Plant) (z y : ℤ) (fz : SFits w64 z) (w : ℕ) (ew : w ≡ cond (
       in-range = rw (inside z fz workerCount w ew lw, good-below y, inside y fy fateCount f ef lf) refl
 
       hand-is : viewHands (p .hands) (natOf z) ≡ viewHand h
-      hand-is = ap (viewHands (p .hands)) (inside-is z fz workerCount w ew lw) ∙ sym eh
+      hand-is = hand-at (p .hands) z fz w ew lw h eh
 
       waits : not (full (viewHands (p .hands) (natOf z))) || replied (viewHands (p .hands) (natOf z)) ≡ not b
       waits = waits-not (viewHands (p .hands) (natOf z)) ∙ rw (hand-is, ← eb) refl
@@ -203,7 +205,7 @@ module _ (p : Plant) (n : ℕ) (b : Bool) (eb : b ≡ has n (viewRows (p .rows))
       both-form fs fr f = form-with-rows _ r fr (form-with-store p s fs f)
 
 -- ── the plant left ──
-module _ (p : Plant) (z y : ℤ) (fy : SFits w64 y) (f : ℕ) (ef : f ≡ cond (below (held y) fateCount) (natOf (held y)) fateCount) where
+module _ (p : Plant) (z y : ℤ) (fy : SFits w64 y) (f : ℕ) (ef : f ≡ indexNumber (held y) fateCount) where
   -- what is known of an accepted call
   record Known (lent : List ℤ) : Type 0 where
     worker : below z workerCount ≡ true
@@ -230,7 +232,7 @@ module _ (p : Plant) (z y : ℤ) (fy : SFits w64 y) (f : ℕ) (ef : f ≡ cond (
   unfolding applied
   not-sent e kept lent h = let k = known lent h in k .leaves (viewPlant p) (rw (k .fate, e) refl)
 
-  module _ (ne : f ≡ fateNumber C.unreached → ⊥) (fz : SFits w64 z) (w : ℕ) (ew : w ≡ cond (below (held z) workerCount) (natOf (held z)) workerCount)
+  module _ (ne : f ≡ fateNumber C.unreached → ⊥) (fz : SFits w64 z) (w : ℕ) (ew : w ≡ indexNumber (held z) workerCount)
       (hand : Hand) (eh : viewHand hand ≡ viewHands (p .hands) w) (n : ℕ) (en : n ≡ handed (viewHand hand))
       (t : Left) (et : keptPlant p ≡ true → viewPlant (left p t) ≡ cond (noRowFor (viewRows (p .rows)) n) (viewPlant p) (carried n (viewPlant p))) where
     handed-at : below z workerCount ≡ true → n ≡ handed (viewHands (p .hands) (natOf z))

@@ -1,6 +1,6 @@
 -- What change answers, one law for each way out.
 use mathlib.Core.Path.{_≡_, refl, sym, _∙_, ap}
-use mathlib.Core.Bool.{Bool, true, false, not, cond, _&&_, _||_}
+use mathlib.Core.Bool.{Bool, true, false, not, _&&_, _||_}
 use mathlib.Core.Option.{Option, none, some}
 use mathlib.Core.List.{List, [], _∷_, _++_}
 use Prim.Native.Nat.{ℕ, suc, _<_, _≤_, _+_}
@@ -12,7 +12,7 @@ use mir.Syntax.{w64}
 use mir.Val.{SFits}
 use mir.Facts.{toZ-ofZ}
 use borrow.Author.Tests.{lt-ltb, le-leb, lt-leb, eq-eqb, ne-eqb}
-use Rattle.rules.specs.Limits.{documentCount, fieldCount, lastSession, changeLimit}
+use Rattle.rules.specs.Limits.{documentCount, fieldCount, changeLimit}
 use Rattle.rules.specs.Values.{below, natOf, inRange}
 use Rattle.rules.specs.Refusals.{Refusal, outOfRange, changesFull, exclusiveElsewhere, storeAway, _⇒_, first}
 use Rattle.rules.specs.Changes.{kindOf, isSet, meets, placeOf, updateOf}
@@ -25,6 +25,7 @@ use Rattle.rules.specs.Conditions.{goodPlace, goodChange, own, conditions}
 use Rattle.rules.specs.Step.{accepted}
 use Rattle.rules.proofs.Laws.{byCase, and-true, below-is, both}
 use Rattle.rules.proofs.Away.{set-meets}
+use Rattle.arguments.specs.Numbers.{sessionNumber}
 use Rattle.arguments.proofs.Numbers.{held, session-is}
 use Rattle.keys.specs.View.{viewPlace, viewKeys}
 use Rattle.keys.specs.declared.Keys.{Keys}
@@ -154,7 +155,7 @@ module _ (p : Plant) (z d f k v : ℤ) (fd : SFits w64 d) (ff : SFits w64 f) (fk
   unfolding foundAnswer _⇒_
   found-out h = rw (sym good-is, eq-eqb (c .kind) 0 h) refl
 
-  module _ (h : c .kind ≡ 0 → ⊥) (fz : SFits w64 z) (n : ℕ) (e : n ≡ cond (below (held z) (suc lastSession)) (natOf (held z)) 0)
+  module _ (h : c .kind ≡ 0 → ⊥) (fz : SFits w64 z) (n : ℕ) (e : n ≡ sessionNumber (held z))
       (s : Session) (es : viewSession s ≡ M.session n (viewSessions (p .sessions))) (w : Answer) (ew : Judges (p .sessions) n s w) (t : Bool) (et : t ≡ isRefused (viewAnswer w)) where
     abbrev changes : ℕ → List C.Update
     changes i = M.session i (viewSessions (p .sessions)) .changes
@@ -188,7 +189,7 @@ module _ (p : Plant) (z d f k v : ℤ) (fd : SFits w64 d) (ff : SFits w64 f) (fk
     unfolding conditions _⇒_
     out-of-range h = refuses (Change z d f k v) lent (chosen (viewPlant p)) (viewPlant p) _ (rw (sym good-is, eq-eqb (c .kind) 0 h) refl)
 
-    module _ (h : c .kind ≡ 0 → ⊥) (fz : SFits w64 z) (n : ℕ) (e : n ≡ cond (below (held z) (suc lastSession)) (natOf (held z)) 0)
+    module _ (h : c .kind ≡ 0 → ⊥) (fz : SFits w64 z) (n : ℕ) (e : n ≡ sessionNumber (held z))
         (s : Session) (es : viewSession s ≡ M.session n (viewSessions (p .sessions))) (w : Answer) (ew : Judges (p .sessions) n s w) (t : Bool) (et : t ≡ isRefused (viewAnswer w)) where
       asks : Asks (λ i. Change i d f k v) (λ i q. conditionsBy (seen q (own i q) (placeOf d f)) q (natOf i) (own i q) (updateOf (placeOf d f) (natOf k) v))
       unfolding conditions _⇒_

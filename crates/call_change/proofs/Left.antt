@@ -2,13 +2,13 @@
 use mathlib.Core.Path.{_≡_, refl, sym, _∙_, ap}
 use mathlib.Core.Bool.{Bool, true, false, not, cond, _&&_, true≢false}
 use mathlib.Core.List.{List}
-use Prim.Native.Nat.{ℕ, suc}
+use Prim.Native.Nat.{ℕ}
 use lib.Dec.{eqb, ltb}
 use lib.IntN.{ℤ}
 use mir.Syntax.{w64}
 use mir.Val.{SFits}
 use borrow.Author.Tests.{lt-ltb, eq-eqb, ne-eqb, not-false}
-use Rattle.rules.specs.Limits.{documentCount, fieldCount, lastSession}
+use Rattle.rules.specs.Limits.{documentCount, fieldCount}
 use Rattle.rules.specs.Values.{below, natOf}
 use Rattle.rules.specs.Refusals.{outOfRange, noSlot, wasDoomed}
 use Rattle.rules.specs.Changes.{placeOf, updateOf}
@@ -18,6 +18,7 @@ use Rattle.rules.specs.Conditions.{goodPlace, goodChange, conditions}
 use Rattle.rules.specs.Effects.{changed}
 use Rattle.rules.specs.Step.{accepted}
 use Rattle.rules.proofs.Laws.{and-true, below-is, not-met, NoneMet}
+use Rattle.arguments.specs.Numbers.{sessionNumber}
 use Rattle.arguments.proofs.Numbers.{held}
 use Rattle.keys.specs.View.{viewPlace}
 use Rattle.changes.specs.View.{viewUpdate}
@@ -54,7 +55,7 @@ module _ (p : Plant) (z d f k v : ℤ) (fd : SFits w64 d) (ff : SFits w64 f) (fk
       let m = none-held (Change z d f k v) lent (chosen (viewPlant p)) (viewPlant p) _ refl h in
       absurd (true≢false (sym (was-good lent m) ∙ sym good-if ∙ ap not (eq-eqb (c .kind) 0 g)))
 
-  module _ (fz : SFits w64 z) (n : ℕ) (e : n ≡ cond (below (held z) (suc lastSession)) (natOf (held z)) 0)
+  module _ (fz : SFits w64 z) (n : ℕ) (e : n ≡ sessionNumber (held z))
       (t : Sessions) (et : viewSessions t ≡ cond (ltb (c .place .document) documentCount) (M.each (grantAt (p .clock) n (viewUpdate c)) (viewSessions (p .sessions))) (viewSessions (p .sessions))) where
     in-stock : goodPlace d f && goodChange k v ≡ true → ltb (c .place .document) documentCount ≡ true
     unfolding viewUpdate viewPlace

@@ -1,17 +1,17 @@
 -- What commit answers and leaves, one law for each way out.
 use mathlib.Core.Path.{_≡_, refl, sym, _∙_, ap}
-use mathlib.Core.Bool.{Bool, true, false, not, cond, _&&_}
+use mathlib.Core.Bool.{Bool, true, false, not, _&&_}
 use mathlib.Core.List.{List, [], _∷_, map}
-use Prim.Native.Nat.{ℕ, suc, _<_, _≤_, _+_}
+use Prim.Native.Nat.{ℕ, _<_, _≤_, _+_}
 use lib.Dec.{leb}
 use lib.IntN.{ℤ}
 use lib.ListN.{length, length-append}
 use mir.Syntax.{w64}
 use mir.Val.{SFits}
 use borrow.Author.Tests.{not-false, le-leb, lt-leb}
-use Rattle.rules.specs.Limits.{lastSession, bufferLimit}
+use Rattle.rules.specs.Limits.{bufferLimit}
 use Rattle.rules.specs.Lists.{isEmpty, pushed}
-use Rattle.rules.specs.Values.{below, natOf}
+use Rattle.rules.specs.Values.{natOf}
 use Rattle.rules.specs.Refusals.{noSlot, bufferFull, first, _⇒_}
 use Rattle.rules.specs.Tables as M
 use Rattle.rules.specs.Calls.{Commit, refused, fine}
@@ -21,6 +21,7 @@ use Rattle.rules.specs.Effects.{bufferedAfter, upToDate, committed}
 use Rattle.rules.specs.Reading.{current, seen}
 use Rattle.rules.specs.Step.{accepted}
 use Rattle.rules.proofs.Laws.{and-true, not-met, pushed-room}
+use Rattle.arguments.specs.Numbers.{sessionNumber}
 use Rattle.arguments.proofs.Numbers.{held}
 use Rattle.changes.specs.View.{viewChanges}
 use Rattle.changes.specs.Form.{changesForm}
@@ -104,7 +105,7 @@ session-changes : (s : Session) → sessionForm s ≡ true → changesForm (s .c
 unfolding sessionForm
 session-changes s f = and-true (leasesForm (s .shared) (s .exclusive) (s .granted)) (changesForm (s .changes)) f .1
 
-module _ (p : Plant) (z : ℤ) (fits : SFits w64 z) (n : ℕ) (e : n ≡ cond (below (held z) (suc lastSession)) (natOf (held z)) 0)
+module _ (p : Plant) (z : ℤ) (fits : SFits w64 z) (n : ℕ) (e : n ≡ sessionNumber (held z))
     (s : Session) (es : viewSession s ≡ M.session n (viewSessions (p .sessions)))
     (b : Buffer) (eb : viewBuffer b ≡ bufferedAfter n (viewChanges (s .changes)) (viewBuffer (p .buffer)))
     (c : Cache) (ec : viewCache c ≡ map (λ x. afterChanges (viewChanges (s .changes)) (viewKeys (p .keys) (x .key)) x) (viewCache (p .cache)))

@@ -10,7 +10,7 @@ use mir.Val.{SFits}
 use borrow.Author.Tests.{not-false}
 use Rattle.rules.specs.Limits.{workerCount}
 use Rattle.rules.specs.Lists.{override}
-use Rattle.rules.specs.Values.{below, natOf}
+use Rattle.rules.specs.Values.{below}
 use Rattle.rules.specs.Refusals.{outOfRange, _⇒_}
 use Rattle.rules.specs.Tables.{empty}
 use Rattle.rules.specs.Calls.{Cut, refused, fine}
@@ -21,6 +21,7 @@ use Rattle.rules.specs.Step.{accepted}
 use Rattle.rules.proofs.Laws.{not-met}
 use Rattle.promises.specs.Promise.{chosen, result, Performs}
 use Rattle.promises.proofs.Telling.{refuses, accepts, none-held, left-accepted}
+use Rattle.arguments.specs.Numbers.{indexNumber}
 use Rattle.arguments.proofs.Numbers.{held, outside, inside, index-is, index-lt}
 use Rattle.workers.specs.View.{viewHand, viewHands, viewQueue}
 use Rattle.workers.specs.Form.{handForm, handsForm, queueForm}
@@ -32,7 +33,7 @@ use Rattle.plant.specs.declared.Plant.{Plant}
 use Rattle.plant.proofs.Formed.{form-with-hands, form-with-queue}
 use Rattle.call_cut.specs.Left.{left}
 
-module _ (p : Plant) (z : ℤ) (fits : SFits w64 z) (w : ℕ) (e : w ≡ cond (below (held z) workerCount) (natOf (held z)) workerCount) (lent : List ℤ) (kept : keptPlant p ≡ true) where
+module _ (p : Plant) (z : ℤ) (fits : SFits w64 z) (w : ℕ) (e : w ≡ indexNumber (held z) workerCount) (lent : List ℤ) (kept : keptPlant p ≡ true) where
   abbrev Answered : C.Answer → Type 0
   Answered a = a ≡ result (Cut z) lent p .answer
 
@@ -45,7 +46,7 @@ module _ (p : Plant) (z : ℤ) (fits : SFits w64 z) (w : ℕ) (e : w ≡ cond (b
   told l = accepts (Cut z) lent (chosen (viewPlant p)) (viewPlant p) (rw (inside z fits workerCount w e l) refl)
 
 -- ── the plant left ──
-module _ (p : Plant) (z : ℤ) (fits : SFits w64 z) (w : ℕ) (e : w ≡ cond (below (held z) workerCount) (natOf (held z)) workerCount)
+module _ (p : Plant) (z : ℤ) (fits : SFits w64 z) (w : ℕ) (e : w ≡ indexNumber (held z) workerCount)
     (hand : Hand) (eh : viewHand hand ≡ empty)
     (hs : Hands) (ehs : viewHands hs ≡ cond (ltb w workerCount) (override (viewHands (p .hands)) w (viewHand hand)) (viewHands (p .hands)))
     (q : Queue) (eq : viewQueue q ≡ orphaned w (viewQueue (p .queue))) where

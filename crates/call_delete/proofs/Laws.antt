@@ -22,6 +22,7 @@ use Rattle.rules.specs.Step.{accepted}
 use Rattle.rules.proofs.Laws.{not-met}
 use Rattle.promises.specs.Promise.{chosen, result, Performs}
 use Rattle.promises.proofs.Telling.{refuses, accepts, none-held, left-accepted}
+use Rattle.arguments.specs.Numbers.{indexNumber}
 use Rattle.arguments.proofs.Numbers.{held, outside, inside, index-is, index-lt}
 use Rattle.workers.specs.View.{viewHand, viewHands, viewQueue}
 use Rattle.workers.specs.Form.{handForm, handsForm, queueForm}
@@ -42,7 +43,7 @@ full-replied : (h : M.Hand) → full h && replied h ≡ replied h
 full-replied M.empty = refl
 full-replied (M.holds n r) = refl
 
-module _ (p : Plant) (z : ℤ) (fits : SFits w64 z) (w : ℕ) (e : w ≡ cond (below (held z) workerCount) (natOf (held z)) workerCount) (lent : List ℤ) (kept : keptPlant p ≡ true) where
+module _ (p : Plant) (z : ℤ) (fits : SFits w64 z) (w : ℕ) (e : w ≡ indexNumber (held z) workerCount) (lent : List ℤ) (kept : keptPlant p ≡ true) where
   abbrev Answered : C.Answer → Type 0
   Answered a = a ≡ result (Delete z) lent p .answer
 
@@ -64,7 +65,7 @@ module _ (p : Plant) (z : ℤ) (fits : SFits w64 z) (w : ℕ) (e : w ≡ cond (b
         rw (eb, en, sym hand-is) (accepts (Delete z) lent (chosen (viewPlant p)) (viewPlant p) (rw (inside z fits workerCount w e l, hand-is, full-replied (viewHand h), sym ef, g) refl))
 
 -- ── the plant left ──
-module _ (p : Plant) (z : ℤ) (fits : SFits w64 z) (w : ℕ) (e : w ≡ cond (below (held z) workerCount) (natOf (held z)) workerCount)
+module _ (p : Plant) (z : ℤ) (fits : SFits w64 z) (w : ℕ) (e : w ≡ indexNumber (held z) workerCount)
     (old : Hand) (eo : viewHand old ≡ viewHands (p .hands) w) (n : ℕ) (en : n ≡ handed (viewHand old)) (hand : Hand) (eh : viewHand hand ≡ empty)
     (bs : Buffer) (ebs : viewBuffer bs ≡ unbuffer n (viewBuffer (p .buffer)))
     (hs : Hands) (ehs : viewHands hs ≡ cond (ltb w workerCount) (override (viewHands (p .hands)) w (viewHand hand)) (viewHands (p .hands)))

@@ -23,6 +23,7 @@ use Rattle.rules.specs.Step.{accepted}
 use Rattle.rules.proofs.Laws.{byCase, not-met, and-true, or-false, below-is}
 use Rattle.promises.specs.Promise.{chosen, result, Performs}
 use Rattle.promises.proofs.Telling.{refuses, accepts, none-held, left-accepted}
+use Rattle.arguments.specs.Numbers.{indexNumber}
 use Rattle.arguments.proofs.Numbers.{held, outside, inside, inside-is, index-is, index-lt}
 use Rattle.keys.specs.View.{viewKey, viewKeys}
 use Rattle.keys.specs.Form.{keyForm, keysForm}
@@ -50,7 +51,7 @@ some-of n a b c d true h = refl
 some-of zero a b c d false h = absurd (h refl)
 some-of (suc n) a b c d false h = refl
 
-module _ (z : ℤ) (w : SFits w64 z) (n : ℕ) (e : n ≡ cond (below (held z) (suc placeLimit)) (natOf (held z)) (suc placeLimit)) (t : Places) where
+module _ (z : ℤ) (w : SFits w64 z) (n : ℕ) (e : n ≡ indexNumber (held z) (suc placeLimit)) (t : Places) where
   bad-is : isEmpty (keyOf n (viewPlaces t)) ≡ isBad z (viewPlaces t)
   unfolding keyOf viewPlaces
   bad-is =
@@ -83,7 +84,7 @@ shown d e f g h i j o wd we wf wg wh wi wj wo t es m =
 
 module _ (p : Plant) (x y d e f g h i j o : ℤ) (wx : SFits w64 x) (wy : SFits w64 y)
     (wd : SFits w64 d) (we : SFits w64 e) (wf : SFits w64 f) (wg : SFits w64 g) (wh : SFits w64 h) (wi : SFits w64 i) (wj : SFits w64 j) (wo : SFits w64 o)
-    (k : ℕ) (ek : k ≡ cond (below (held x) keyCount) (natOf (held x)) keyCount) (lent : List ℤ) (kept : keptPlant p ≡ true) where
+    (k : ℕ) (ek : k ≡ indexNumber (held x) keyCount) (lent : List ℤ) (kept : keptPlant p ≡ true) where
   abbrev m : C.Pairs
   m = pairs d e f g h i j o
 
@@ -124,7 +125,7 @@ module _ (p : Plant) (x y d e f g h i j o : ℤ) (wx : SFits w64 x) (wy : SFits 
 
         module _ (nu : not u ≡ false)
             (es : goodPairs (pairs (held d) (held e) (held f) (held g) (held h) (held i) (held j) (held o)) ≡ true → viewPlaces t ≡ placesOf (pairs (held d) (held e) (held f) (held g) (held h) (held i) (held j) (held o)))
-            (n : ℕ) (en : n ≡ cond (below (held y) (suc placeLimit)) (natOf (held y)) (suc placeLimit)) (new : Key) (ew : viewKey new ≡ keyOf n (viewPlaces t)) (v : Bool) (ev : v ≡ isEmpty (viewKey new)) where
+            (n : ℕ) (en : n ≡ indexNumber (held y) (suc placeLimit)) (new : Key) (ew : viewKey new ≡ keyOf n (viewPlaces t)) (v : Bool) (ev : v ≡ isEmpty (viewKey new)) where
           judged : isBad y (placesOf m) ≡ v
           judged =
               ap (isBad y) (sym (shown d e f g h i j o wd we wf wg wh wi wj wo t es good))
@@ -141,9 +142,9 @@ module _ (p : Plant) (x y d e f g h i j o : ℤ) (wx : SFits w64 x) (wy : SFits 
 -- ── the plant left ──
 module _ (p : Plant) (x y d e f g h i j o : ℤ) (wx : SFits w64 x) (wy : SFits w64 y)
     (wd : SFits w64 d) (we : SFits w64 e) (wf : SFits w64 f) (wg : SFits w64 g) (wh : SFits w64 h) (wi : SFits w64 i) (wj : SFits w64 j) (wo : SFits w64 o)
-    (k : ℕ) (ek : k ≡ cond (below (held x) keyCount) (natOf (held x)) keyCount) (t : Places)
+    (k : ℕ) (ek : k ≡ indexNumber (held x) keyCount) (t : Places)
     (es : goodPairs (pairs (held d) (held e) (held f) (held g) (held h) (held i) (held j) (held o)) ≡ true → viewPlaces t ≡ placesOf (pairs (held d) (held e) (held f) (held g) (held h) (held i) (held j) (held o)))
-    (n : ℕ) (en : n ≡ cond (below (held y) (suc placeLimit)) (natOf (held y)) (suc placeLimit)) (new : Key) (ew : viewKey new ≡ keyOf n (viewPlaces t))
+    (n : ℕ) (en : n ≡ indexNumber (held y) (suc placeLimit)) (new : Key) (ew : viewKey new ≡ keyOf n (viewPlaces t))
     (ks : Keys) (eks : viewKeys ks ≡ cond (ltb k keyCount) (override (viewKeys (p .keys)) k (viewKey new)) (viewKeys (p .keys))) where
   pub with-key : Performs (Map x y (pairs d e f g h i j o)) p (withKeys p ks)
   unfolding conditions viewPlant accepted mapped

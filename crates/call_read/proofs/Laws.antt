@@ -1,16 +1,15 @@
 -- What read answers, the words it fills and the plant it leaves, one law for each way out.
 use mathlib.Core.Path.{_≡_, refl, sym, _∙_, ap, ap₂, subst}
-use mathlib.Core.Bool.{Bool, true, false, cond, true≢false}
+use mathlib.Core.Bool.{Bool, true, false, true≢false}
 use mathlib.Core.Option.{Option, none, some}
 use mathlib.Core.List.{List, [], _∷_, map}
-use Prim.Native.Nat.{ℕ, suc, _<_, _≤_, _*_}
+use Prim.Native.Nat.{ℕ, _<_, _≤_, _*_}
 use lib.IntN.{ℤ, pos}
 use lib.ListN.{length, length-map}
 use mir.Syntax.{w64}
 use mir.Val.{SFits}
 use borrow.Author.Tests.{not-false, ltb-true, ltb-false, le-leb}
-use Rattle.rules.specs.Limits.{keyCount, lastSession, wordsPerField}
-use Rattle.rules.specs.Values.{below, natOf}
+use Rattle.rules.specs.Limits.{keyCount, wordsPerField}
 use Rattle.rules.specs.Values as S
 use Rattle.rules.specs.Refusals.{Refusal, outOfRange, wasDoomed, fewWords, storeAway, first}
 use Rattle.rules.specs.Tables as M
@@ -23,7 +22,7 @@ use Rattle.rules.specs.Step.{accepted, settle, step}
 use Rattle.rules.proofs.Laws.{NoneMet, none-met, not-met}
 use Rattle.rules.proofs.Steps.{step-fine}
 use Rattle.rules.proofs.Away.{key-places}
-use Rattle.arguments.specs.Numbers.{sessionNumber}
+use Rattle.arguments.specs.Numbers.{sessionNumber, indexNumber}
 use Rattle.arguments.proofs.Numbers.{held, session-is, indexed-is}
 use Rattle.keys.specs.View.{viewKey, viewKeys}
 use Rattle.keys.specs.declared.Key.{Key}
@@ -132,8 +131,8 @@ module _ (p : Plant) (h : keptPlant p ≡ true) (n k : ℕ) (lent : List ℤ) (m
       rw (e ∙ fields-are, length-map qs (seen (viewPlant p) (ownOf n (viewPlant p))), le-leb (wordsPerField * length qs) (length lent) l) refl
 
 -- ── the answer and the words ──
-module _ (p : Plant) (z : ℤ) (fz : SFits w64 z) (n : ℕ) (en : n ≡ cond (below (held z) (suc lastSession)) (natOf (held z)) 0)
-    (y : ℤ) (fy : SFits w64 y) (k : ℕ) (ek : k ≡ cond (below (held y) keyCount) (natOf (held y)) keyCount)
+module _ (p : Plant) (z : ℤ) (fz : SFits w64 z) (n : ℕ) (en : n ≡ sessionNumber (held z))
+    (y : ℤ) (fy : SFits w64 y) (k : ℕ) (ek : k ≡ indexNumber (held y) keyCount)
     (lent : List ℤ) (a : Answer) (ea : (words : List ℤ) → length lent ≡ length words → viewAnswer a ≡ answerBy (first (conditions (Read (pos n) (pos k)) words (sightAway (p .near) (p .keys) (p .cache) (p .sessions) (p .buffer)))) [])
     (r : Bool) (er : r ≡ isRefused (viewAnswer a)) where
   as-told : viewAnswer a ≡ answerBy (first (conditions (Read (pos n) (pos k)) lent (viewPlant p))) []
@@ -193,8 +192,8 @@ module _ (p : Plant) (z : ℤ) (fz : SFits w64 z) (n : ℕ) (en : n ≡ cond (be
     filled c ws e w h = w ∙ words-are p h n k lent none-meets (viewCached c .fields) (ap (λ (x : M.Cached). x .fields) e ∙ same-fields p n k) ∙ ap (λ (x : C.Result). x .words) (reads h)
 
 -- ── what it shows ──
-module _ (p : Plant) (z : ℤ) (fz : SFits w64 z) (n : ℕ) (en : n ≡ cond (below (held z) (suc lastSession)) (natOf (held z)) 0)
-    (y : ℤ) (fy : SFits w64 y) (k : ℕ) (ek : k ≡ cond (below (held y) keyCount) (natOf (held y)) keyCount) where
+module _ (p : Plant) (z : ℤ) (fz : SFits w64 z) (n : ℕ) (en : n ≡ sessionNumber (held z))
+    (y : ℤ) (fy : SFits w64 y) (k : ℕ) (ek : k ≡ indexNumber (held y) keyCount) where
   pub shown-so : (m : Marked) → viewMark (m .mark) ≡ mark n k (looked p n k) → viewCached (m .fields) ≡ record { key = k; fields = shownFields n k (looked p n k) } → Shows z y p m
   shown-so m em ef = (em ∙ same-mark p n k ∙ ap₂ (λ a b. mark a b (viewPlant p)) (session-is z fz n en) (indexed-is y fy keyCount k ek), ef ∙ ap (λ fs. record { key = k; fields = fs }) (same-fields p n k) ∙ ap₂ (λ a b. record { key = b; fields = shownFields a b (viewPlant p) }) (session-is z fz n en) (indexed-is y fy keyCount k ek))
 
@@ -206,7 +205,7 @@ module _ (p : Plant) (z : ℤ) (fz : SFits w64 z) (n : ℕ) (en : n ≡ cond (be
 
 -- ── the plant left ──
 module _ (p : Plant) (z : ℤ) (fz : SFits w64 z) (y : ℤ) (fy : SFits w64 y)
-    (n : ℕ) (en : n ≡ cond (below (held z) (suc lastSession)) (natOf (held z)) 0) (k : ℕ) (ek : k ≡ cond (below (held y) keyCount) (natOf (held y)) keyCount)
+    (n : ℕ) (en : n ≡ sessionNumber (held z)) (k : ℕ) (ek : k ≡ indexNumber (held y) keyCount)
     (m : Marked) (c : Cache) (ec : viewCache c ≡ cacheBy (viewMark (m .mark)) 0 (viewCached (m .fields)) (viewCache (p .cache))) (key : Key) (eq : viewKey key ≡ viewKeys (p .keys) k)
     (s : Sessions) (es : viewSessions s ≡ M.each (onlyAt n (withSharedAt (p .clock) (within (viewKey key)))) (viewSessions (p .sessions))) where
   abbrev withRead : Plant

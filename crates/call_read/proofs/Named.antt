@@ -1,14 +1,14 @@
 -- On a kept plant a read by a caller's numbers is the read by the numbers of a session and a key that the code finds for them.
 use mathlib.Core.Path.{_≡_, refl, _∙_, ap, ap₂}
-use mathlib.Core.Bool.{true, cond}
+use mathlib.Core.Bool.{true}
 use mathlib.Core.Option.{Option, none, some}
 use mathlib.Core.List.{List}
-use Prim.Native.Nat.{ℕ, suc}
+use Prim.Native.Nat.{ℕ}
 use lib.Dec.{ltb}
 use lib.IntN.{ℤ, pos}
 use mir.Syntax.{w64}
 use mir.Val.{SFits}
-use Rattle.rules.specs.Limits.{keyCount, lastSession}
+use Rattle.rules.specs.Limits.{keyCount}
 use Rattle.rules.specs.Values.{below, natOf}
 use Rattle.rules.specs.Refusals.{Refusal, first, _⇒_}
 use Rattle.rules.specs.Tables as M
@@ -16,6 +16,7 @@ use Rattle.rules.specs.Calls.{Read, Pick}
 use Rattle.rules.specs.Conditions.{conditions}
 use Rattle.rules.specs.Step.{accepted, settle, step}
 use Rattle.rules.proofs.Laws.{byCase}
+use Rattle.arguments.specs.Numbers.{sessionNumber, indexNumber}
 use Rattle.arguments.proofs.Numbers.{held, index-test, index-is}
 use Rattle.plant.specs.View.{viewPlant, keptPlant}
 use Rattle.plant.specs.declared.Plant.{Plant}
@@ -45,8 +46,8 @@ module _ (p : M.Plant) (lent : List ℤ) (pick : Pick) (z y : ℤ) (n k : ℕ) (
       (λ b. byCase (M.hasSlot n (p .slots)) (both-found b) (λ h. rw (ly ∙ b, b, sz, h) refl))
       (λ b. rw (ly ∙ b, b) refl)
 
-module _ (p : Plant) (z : ℤ) (fz : SFits w64 z) (n : ℕ) (en : n ≡ cond (below (held z) (suc lastSession)) (natOf (held z)) 0)
-    (y : ℤ) (fy : SFits w64 y) (k : ℕ) (ek : k ≡ cond (below (held y) keyCount) (natOf (held y)) keyCount) where
+module _ (p : Plant) (z : ℤ) (fz : SFits w64 z) (n : ℕ) (en : n ≡ sessionNumber (held z))
+    (y : ℤ) (fy : SFits w64 y) (k : ℕ) (ek : k ≡ indexNumber (held y) keyCount) where
   pub named : keptPlant p ≡ true → (lent : List ℤ) → result (Read z y) lent p ≡ result (Read (pos n) (pos k)) lent p
   named h lent =
       let x = kept-parts p h in

@@ -1,6 +1,6 @@
 -- What store answers and leaves, one law for each way out.
 use mathlib.Core.Path.{_≡_, refl, sym, _∙_}
-use mathlib.Core.Bool.{true, false, cond}
+use mathlib.Core.Bool.{true, false}
 use mathlib.Core.List.{List, [], _∷_}
 use Prim.Native.Nat.{ℕ, zero, suc, _≤_, _<_}
 use native.Mathlib.Omega.{arith}
@@ -10,7 +10,7 @@ use mir.Syntax.{w64}
 use mir.Val.{SFits}
 use borrow.Author.Tests.{ne-eqb, le-ltb, not-false}
 use Rattle.rules.specs.Lists.{bit, isCase, caseOf}
-use Rattle.rules.specs.Values.{below, natOf}
+use Rattle.rules.specs.Values.{below}
 use Rattle.rules.specs.Refusals.{outOfRange, _⇒_}
 use Rattle.rules.specs.Calls as C
 use Rattle.rules.specs.Calls.{Store, refused, fine}
@@ -19,6 +19,7 @@ use Rattle.rules.specs.Step.{accepted}
 use Rattle.rules.proofs.Laws.{byCase, not-met}
 use Rattle.promises.specs.Promise.{chosen, result, Performs}
 use Rattle.promises.proofs.Telling.{refuses, accepts, none-held, left-accepted}
+use Rattle.arguments.specs.Numbers.{indexNumber}
 use Rattle.arguments.proofs.Numbers.{held, outside, inside, index-is}
 use Rattle.plant.specs.View.{viewPlant, keptPlant}
 use Rattle.plant.specs.With.{withNear}
@@ -39,7 +40,7 @@ mark-test (negsuc n) = refl
 near-is : (n : ℕ) → eqb n 1 ≡ caseOf bit false (true ∷ false ∷ []) n
 near-is n = byCase (eqb n 1) (λ t. rw t refl) (λ t. rw t (byCase (eqb n 0) (λ u. rw u refl) (λ u. rw u refl)))
 
-module _ (p : Plant) (z : ℤ) (fits : SFits w64 z) (n : ℕ) (e : n ≡ cond (below (held z) 2) (natOf (held z)) 2) (lent : List ℤ) (kept : keptPlant p ≡ true) where
+module _ (p : Plant) (z : ℤ) (fits : SFits w64 z) (n : ℕ) (e : n ≡ indexNumber (held z) 2) (lent : List ℤ) (kept : keptPlant p ≡ true) where
   abbrev Answered : C.Answer → Type 0
   Answered a = a ≡ result (Store z) lent p .answer
 
@@ -52,7 +53,7 @@ module _ (p : Plant) (z : ℤ) (fits : SFits w64 z) (n : ℕ) (e : n ≡ cond (b
   done l = accepts (Store z) lent (chosen (viewPlant p)) (viewPlant p) (rw (mark-test z, inside z fits 2 n e (omega arith)) refl)
 
 -- ── the plant left ──
-module _ (p : Plant) (z : ℤ) (fits : SFits w64 z) (n : ℕ) (e : n ≡ cond (below (held z) 2) (natOf (held z)) 2) where
+module _ (p : Plant) (z : ℤ) (fits : SFits w64 z) (n : ℕ) (e : n ≡ indexNumber (held z) 2) where
   pub marked : Performs (Store z) p (withNear p (eqb n 1))
   unfolding conditions viewPlant accepted
   marked kept lent h =

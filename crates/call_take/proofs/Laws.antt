@@ -22,6 +22,7 @@ use Rattle.rules.specs.Step.{accepted}
 use Rattle.rules.proofs.Laws.{not-met}
 use Rattle.promises.specs.Promise.{chosen, result, Performs}
 use Rattle.promises.proofs.Telling.{refuses, accepts, none-held, left-accepted}
+use Rattle.arguments.specs.Numbers.{indexNumber}
 use Rattle.arguments.proofs.Numbers.{held, outside, inside, index-is, index-lt}
 use Rattle.workers.specs.View.{viewHand, viewHands, viewQueue}
 use Rattle.workers.specs.Form.{handForm, handsForm, queueForm}
@@ -35,7 +36,7 @@ use Rattle.plant.proofs.Formed.{form-with-hands, form-with-queue}
 use Rattle.call_take.specs.Left.{left}
 use Rattle.promises.proofs.Worker.{hand-at}
 
-module _ (p : Plant) (z : ℤ) (fits : SFits w64 z) (w : ℕ) (e : w ≡ cond (below (held z) workerCount) (natOf (held z)) workerCount) (lent : List ℤ) (kept : keptPlant p ≡ true) where
+module _ (p : Plant) (z : ℤ) (fits : SFits w64 z) (w : ℕ) (e : w ≡ indexNumber (held z) workerCount) (lent : List ℤ) (kept : keptPlant p ≡ true) where
   abbrev Answered : C.Answer → Type 0
   Answered a = a ≡ result (Take z) lent p .answer
 
@@ -69,7 +70,7 @@ module _ (p : Plant) (z : ℤ) (fits : SFits w64 z) (w : ℕ) (e : w ≡ cond (b
         oldest-told i n en = ap (λ (m : ℕ). fine (m ∷ [])) en ∙ accepts (Take z) lent (chosen (viewPlant p)) (viewPlant p) (rw (in-range, hand-is, g, sym eq, k, sym eb, i) refl)
 
 -- ── the plant left ──
-module _ (p : Plant) (z : ℤ) (fits : SFits w64 z) (w : ℕ) (e : w ≡ cond (below (held z) workerCount) (natOf (held z)) workerCount)
+module _ (p : Plant) (z : ℤ) (fits : SFits w64 z) (w : ℕ) (e : w ≡ indexNumber (held z) workerCount)
     (n : ℕ) (en : n ≡ oldest (viewBuffer (p .buffer))) (hand : Hand) (eh : viewHand hand ≡ holds n false)
     (hs : Hands) (ehs : viewHands hs ≡ cond (ltb w workerCount) (override (viewHands (p .hands)) w (viewHand hand)) (viewHands (p .hands)))
     (q : Queue) (eq : viewQueue q ≡ leased (some w) (p .clock)) where

@@ -1,6 +1,6 @@
 -- The session that a caller's number names: on a kept plant, a number that no session can have is like 0, which none has.
 use mathlib.Core.Path.{_≡_, refl, sym, _∙_, ap}
-use mathlib.Core.Bool.{true, false, cond, _||_, true≢false}
+use mathlib.Core.Bool.{true, false, _||_, true≢false}
 use mathlib.Core.List.{List, [], _∷_}
 use Prim.Native.Nat.{ℕ, suc, _≤_}
 use native.Mathlib.Omega.{arith}
@@ -8,16 +8,16 @@ use lib.Dec.{eqb, leb, ltb}
 use lib.IntN.{ℤ, pos, negsuc}
 use mir.Syntax.{w64}
 use mir.Val.{SFits}
-use mir.Facts.{toZ-ofZ}
 use borrow.Author.Tests.{eqb-true, ltb-false, le-ltb}
 use Rattle.rules.specs.Limits.{firstSession, lastSession}
 use Rattle.rules.specs.Lists.{all}
-use Rattle.rules.specs.Values.{below, natOf}
+use Rattle.rules.specs.Values.{natOf}
 use Rattle.rules.specs.Tables.{Slot, hasSlot, isSlot, freed, Plant}
 use Rattle.rules.specs.Kept.{goodNumber}
 use Rattle.rules.proofs.Laws.{byCase, and-true, or-false}
 use Rattle.rules.proofs.KeptParts.{Kept}
-use Rattle.arguments.proofs.Numbers.{held}
+use Rattle.arguments.specs.Numbers.{sessionNumber}
+use Rattle.arguments.proofs.Numbers.{held, session-is}
 
 -- ── a number that no session can have ──
 none-has : (next m : ℕ) (l : List Slot) → all (λ s. goodNumber next (s .number)) l ≡ true → goodNumber next m ≡ false → hasSlot m l ≡ false
@@ -47,12 +47,9 @@ module _ (p : Plant) (k : Kept p) where
       none-has (p .next) a (p .slots) (k .slots .numbers) (byCase (leb firstSession a) (λ b. rw (b, l) refl) (λ b. rw b refl))
 
   -- ── as the code reads it: n ──
-  module _ (z : ℤ) (fits : SFits w64 z) (n : ℕ) (e : n ≡ cond (below (held z) (suc lastSession)) (natOf (held z)) 0) where
-    is-read : n ≡ cond (below z (suc lastSession)) (natOf z) 0
-    is-read = e ∙ ap (λ (y : ℤ). cond (below y (suc lastSession)) (natOf y) 0) (toZ-ofZ fits)
-
+  module _ (z : ℤ) (fits : SFits w64 z) (n : ℕ) (e : n ≡ sessionNumber (held z)) where
     Named : ℤ → Type 0
-    Named y = (m : ℕ) → m ≡ cond (below y (suc lastSession)) (natOf y) 0
+    Named y = (m : ℕ) → m ≡ sessionNumber y
         → (isSlot y (p .slots) ≡ hasSlot m (p .slots)) × ((hasSlot m (p .slots) ≡ true → natOf y ≡ m) × (freed (natOf y) (p .slots) ≡ freed m (p .slots)))
 
     named : (y : ℤ) → Named y
@@ -66,12 +63,12 @@ module _ (p : Plant) (k : Kept p) where
 
     pub slot-is : isSlot z (p .slots) ≡ hasSlot n (p .slots)
     unfolding Named
-    slot-is = named z n is-read .0
+    slot-is = named z n (session-is z fits n e) .0
 
     pub number-is : hasSlot n (p .slots) ≡ true → natOf z ≡ n
     unfolding Named
-    number-is = named z n is-read .1 .0
+    number-is = named z n (session-is z fits n e) .1 .0
 
     pub freed-is : freed (natOf z) (p .slots) ≡ freed n (p .slots)
     unfolding Named
-    freed-is = named z n is-read .1 .1
+    freed-is = named z n (session-is z fits n e) .1 .1

@@ -17,6 +17,7 @@ use Rattle.rules.specs.Lists.{isCase, sameCase}
 use Rattle.rules.specs.Values.{below, natOf, isNatural, eqZ, fits32, inRange}
 use Rattle.rules.specs.Changes.{Kind, kindOf, kindNumber, kinds, unset, goodKind, goodValue, placeOf, updateOf}
 use Rattle.rules.specs.Conditions.{goodPlace, goodChange}
+use Rattle.arguments.specs.Numbers.{indexNumber}
 use Rattle.arguments.proofs.Numbers.{held, outside, inside, inside-is, index-is, index-test}
 use Rattle.keys.specs.View.{viewPlace}
 use Rattle.keys.specs.Form.{isBlank}
@@ -27,7 +28,7 @@ use Rattle.changes.specs.Form.{isUsed, isUnused}
 use Rattle.changes.specs.declared.Update.{Update}
 
 -- ── places ──
-module _ (x y : ℤ) (wx : SFits w64 x) (wy : SFits w64 y) (d f : ℕ) (ed : d ≡ cond (below (held x) documentCount) (natOf (held x)) documentCount) (ef : f ≡ cond (below (held y) fieldCount) (natOf (held y)) fieldCount) where
+module _ (x y : ℤ) (wx : SFits w64 x) (wy : SFits w64 y) (d f : ℕ) (ed : d ≡ indexNumber (held x) documentCount) (ef : f ≡ indexNumber (held y) fieldCount) where
   pub place-within : inRange (viewPlace (record { document = d; field = f })) ≡ goodPlace x y
   unfolding viewPlace
   place-within = rw (index-test x wx documentCount d ed, index-test y wy fieldCount f ef) refl
@@ -67,7 +68,7 @@ kind-test : (z : ℤ) → goodKind z ≡ below z 7 && not (eqb (natOf z) 0)
 kind-test (pos n) = case-test n
 kind-test (negsuc n) = refl
 
-module _ (z : ℤ) (w : SFits w64 z) (k : ℕ) (e : k ≡ cond (below (held z) 7) (natOf (held z)) 7) where
+module _ (z : ℤ) (w : SFits w64 z) (k : ℕ) (e : k ≡ indexNumber (held z) 7) where
   pub no-kind : 6 < k → 0 ≡ cond (goodKind z) (natOf z) 0
   no-kind h = rw (kind-test z, outside z w 7 k e (omega arith)) refl
 
