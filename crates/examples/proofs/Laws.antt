@@ -17,7 +17,7 @@ use Rattle.plant.specs.View.{viewPlant}
 use Rattle.line_pending.specs.View.{viewPending}
 use Rattle.line_server.specs.Fed.{keptServer, Fed, Finished}
 use Rattle.line_server.specs.declared.Server.{Server}
-use Rattle.examples.specs.Comparison.{common, Exactly, Tells, Compared}
+use Rattle.examples.specs.Comparison.{common, Exactly, Matches, Compared}
 use Rattle.examples.specs.declared.Match.{Match}
 
 -- ── the first bytes in common ──
@@ -76,7 +76,7 @@ common-stays (b ∷ came) out (a ∷ answers) h =
     (λ t. rw t refl)
 
 -- ── a match ──
-module _ (answers came : List ℕ) (m : Match) (t : Tells answers came m) where
+module _ (answers came : List ℕ) (m : Match) (t : Matches answers came m) where
   -- all bytes that came were the same: they are the first `m .at`
   counted : m .same ≡ true → common came answers ≡ length came
   counted s = common-all came answers (t .same .0 s)
@@ -99,14 +99,14 @@ module _ (answers came : List ℕ) (m : Match) (t : Tells answers came m) where
   partly s = ((λ e. absurd (true≢false (sym e ∙ s))), (λ e. t .same .1 (sym (take-length came) ∙ ap (take (length came)) e)))
 
   module _ (out : List ℕ) where
-    pub stays : m .same ≡ false → Tells answers (came ++ out) m
+    pub stays : m .same ≡ false → Matches answers (came ++ out) m
     stays s =
         let less = fewer s in
         let a = common-stays came out answers less in
         let l = length-append came out in
         record { at = t .at ∙ sym a; same = ((λ f. absurd (true≢false (sym f ∙ s))), (λ f. let z = common-all (came ++ out) answers f in absurd (omega arith))) }
 
-    pub comes : m .same ≡ true → (at : ℕ) → at ≡ m .at + length out → common out (drop (m .at) answers) ≡ length out → Tells answers (came ++ out) (record { at = at; same = true })
+    pub comes : m .same ≡ true → (at : ℕ) → at ≡ m .at + length out → common out (drop (m .at) answers) ≡ length out → Matches answers (came ++ out) (record { at = at; same = true })
     comes s at e k =
         let c = counted s in
         let n : m .at ≡ length came = t .at ∙ c in
@@ -115,7 +115,7 @@ module _ (answers came : List ℕ) (m : Match) (t : Tells answers came m) where
         let l = length-append came out in
         record { at = omega arith; same = ((λ _. all-common (came ++ out) answers (omega arith)), (λ _. refl)) }
 
-    pub differs : m .same ≡ true → (at i : ℕ) → at ≡ m .at + i → i < length out → common out (drop (m .at) answers) ≡ i → Tells answers (came ++ out) (record { at = at; same = false })
+    pub differs : m .same ≡ true → (at i : ℕ) → at ≡ m .at + i → i < length out → common out (drop (m .at) answers) ≡ i → Matches answers (came ++ out) (record { at = at; same = false })
     differs s at i e h k =
         let c = counted s in
         let n : m .at ≡ length came = t .at ∙ c in
@@ -161,13 +161,13 @@ pub record Going (lines answers : List ℕ) (at : ℕ) (s : Server) (m : Match) 
   pub came : List ℕ
   pub feeds : Feeds [] setup (take at lines) came (viewPending (s .pending)) (viewPlant (s .plant))
   pub keeps : keptServer s ≡ true
-  pub tells : Tells answers came m
+  pub tells : Matches answers came m
 
-pub going-none : (lines answers : List ℕ) (s : Server) (m : Match) → viewPlant (s .plant) ≡ setup → viewPending (s .pending) ≡ [] → keptServer s ≡ true → Tells answers [] m → Going lines answers 0 s m
+pub going-none : (lines answers : List ℕ) (s : Server) (m : Match) → viewPlant (s .plant) ≡ setup → viewPending (s .pending) ≡ [] → keptServer s ≡ true → Matches answers [] m → Going lines answers 0 s m
 going-none lines answers s m p e k t = record { came = []; feeds = rw (p, e) (record { serves = (refl, refl); keeps = refl }); keeps = k; tells = t }
 
 module _ (lines answers : List ℕ) (at : ℕ) (s : Server) (m : Match) (g : Going lines answers at s m) (out : List ℕ) (t : Server) (r : Match)
-    (told : (came : List ℕ) → Tells answers came m → Tells answers (came ++ take (t .wrote) out) r) where
+    (told : (came : List ℕ) → Matches answers came m → Matches answers (came ++ take (t .wrote) out) r) where
   pub going : (n : ℕ) → (keptServer s ≡ true → Fed s (take n (drop at lines)) out t) → t .used ≤ length (take n (drop at lines)) → Going lines answers (at + t .used) t r
   going n f h =
       let d = f (g .keeps) in

@@ -20,7 +20,7 @@ abbrev pub Exactly : Bool → Type 0 → Type 0
 Exactly b Fact = (b ≡ true → Fact) × (Fact → b ≡ true)
 
 -- of the bytes that came: how many are the first of the answers, and whether all are
-pub record Tells (answers came : List ℕ) (m : Match) : Type 0 where
+pub record Matches (answers came : List ℕ) (m : Match) : Type 0 where
   pub at : m .at ≡ common came answers
   pub same : Exactly (m .same) (came ≡ take (length came) answers)
 
@@ -29,4 +29,4 @@ pub record Compared (lines answers : List ℕ) (m : Match) : Type 0 where
   pub came : List ℕ
   pub plant : Plant
   pub serves : Serves (linesOf lines) setup came plant
-  pub tells : Tells answers came m
+  pub tells : Matches answers came m

@@ -3,7 +3,7 @@
 ghost use Prim.Native.Nat.{ℕ, _≤_, _<_};
 ghost use mathlib.Core.Path.{_≡_};
 ghost use mathlib.Core.List.{List, [], _++_};
-ghost use Rattle.examples.specs.Comparison.{Exactly, Tells, Compared};
+ghost use Rattle.examples.specs.Comparison.{Exactly, Matches, Compared};
 use libc::STDOUT_FILENO;
 use line_server::Server;
 
@@ -16,14 +16,14 @@ struct Match {
 impl Match {
     // Nothing has come.
     fn start() -> Self
-        ensures { λ r. ⌜ ((answers : List ℕ) → Tells answers [] r) ⌝ }
+        ensures { λ r. ⌜ ((answers : List ℕ) → Matches answers [] r) ⌝ }
     {
         Match { at: 0, same: true }
     }
 
     // The bytes of out come.
     fn add(self, answers: &[u8], out: &[u8]) -> Self
-        ensures { λ r. ⌜ ((came : List ℕ) → Tells (now (answers .entry)) came self → Tells (now (answers .entry)) (came ++ now (out .entry)) r) ⌝ }
+        ensures { λ r. ⌜ ((came : List ℕ) → Matches (now (answers .entry)) came self → Matches (now (answers .entry)) (came ++ now (out .entry)) r) ⌝ }
     {
         if !self.same {
             return self;
@@ -45,7 +45,7 @@ impl Match {
 
     // Whether what has come is the answers, no byte less and no byte more.
     fn whole(self, answers: &[u8]) -> bool
-        ensures { λ r. ⌜ ((came : List ℕ) → Tells (now (answers .entry)) came self → Exactly r (came ≡ now (answers .entry))) ⌝ }
+        ensures { λ r. ⌜ ((came : List ℕ) → Matches (now (answers .entry)) came self → Exactly r (came ≡ now (answers .entry))) ⌝ }
     {
         self.same && self.at == answers.len()
     }

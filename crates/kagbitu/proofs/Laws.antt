@@ -19,12 +19,12 @@ use Rattle.line_print.specs.Line.{longest}
 use Rattle.arguments.proofs.Numbers.{held}
 use Rattle.kagbitu.specs.Part.{unused, Inside, First, Rest}
 use Rattle.kagbitu.specs.declared.part.Part.{Part}
-use Rattle.kagbitu.specs.Outcome.{passing, outcomeOf, Answered}
-use Rattle.kagbitu.specs.declared.outcome.Outcome.{Outcome}
-use Rattle.kagbitu.specs.declared.outcome.Outcome.the-variants as o
+use Rattle.kagbitu.specs.Transfer.{passing, transferOf, CameTo}
+use Rattle.kagbitu.specs.declared.transfer.Transfer.{Transfer}
+use Rattle.kagbitu.specs.declared.transfer.Transfer.the-variants as o
 
 -- ── what a call answered ──
-negative : (z e : ℤ) (l : ℕ) → ltZ z (pos 0) ≡ true → outcomeOf z e l ≡ cond (passing e) o.Again o.Failed
+negative : (z e : ℤ) (l : ℕ) → ltZ z (pos 0) ≡ true → transferOf z e l ≡ cond (passing e) o.Again o.Failed
 negative (pos n) e l h = absurd (omega (arith, ltb-true n 0 h))
 negative (negsuc n) e l h = refl
 
@@ -42,36 +42,36 @@ stays (negsuc n) f g = refl
 
 module _ (z : ℤ) (w : SFits w64 z) (e : ℤ) (l : ℕ) where
   module _ (h : ltZ (held z) (pos 0) ≡ true) where
-    fails : outcomeOf z e l ≡ cond (passing e) o.Again o.Failed
+    fails : transferOf z e l ≡ cond (passing e) o.Again o.Failed
     fails = negative z e l (rw (toZ-ofZ w) at h)
 
-    pub told-again : SFits w32 e → (k : ℕ) → k < 2 ^ 31 → ofZ w32 e ≡ k → passing (pos k) ≡ true → o.Again ≡ outcomeOf z e l
+    pub told-again : SFits w32 e → (k : ℕ) → k < 2 ^ 31 → ofZ w32 e ≡ k → passing (pos k) ≡ true → o.Again ≡ transferOf z e l
     told-again f k i q p = sym (fails ∙ ap (λ b. cond b o.Again o.Failed) (passes e f k i q p))
 
-    pub told-failed : (ofZ w32 e ≡ 4 → ⊥) → (ofZ w32 e ≡ 11 → ⊥) → o.Failed ≡ outcomeOf z e l
+    pub told-failed : (ofZ w32 e ≡ 4 → ⊥) → (ofZ w32 e ≡ 11 → ⊥) → o.Failed ≡ transferOf z e l
     told-failed f g = sym (fails ∙ ap (λ b. cond b o.Again o.Failed) (stays e f g))
 
   module _ (h : ltZ (held z) (pos 0) ≡ false) where
     count-is : z ≡ pos (natAbs (held z))
     count-is = sym (toZ-ofZ w) ∙ natural (held z) h
 
-    pub told-end : natAbs (held z) ≡ 0 → o.End ≡ outcomeOf z e l
-    told-end q = sym (ap (λ y. outcomeOf y e l) (count-is ∙ ap pos q))
+    pub told-end : natAbs (held z) ≡ 0 → o.End ≡ transferOf z e l
+    told-end q = sym (ap (λ y. transferOf y e l) (count-is ∙ ap pos q))
 
-    told-moved : (natAbs (held z) ≡ 0 → ⊥) → outcomeOf (pos (natAbs (held z))) e l ≡ outcomeOf z e l
-    told-moved q = ap (λ y. outcomeOf y e l) (sym count-is)
+    told-moved : (natAbs (held z) ≡ 0 → ⊥) → transferOf (pos (natAbs (held z))) e l ≡ transferOf z e l
+    told-moved q = ap (λ y. transferOf y e l) (sym count-is)
 
-    pub told-some : (natAbs (held z) ≡ 0 → ⊥) → natAbs (held z) < l → o.Moved (natAbs (held z)) ≡ outcomeOf z e l
+    pub told-some : (natAbs (held z) ≡ 0 → ⊥) → natAbs (held z) < l → o.Moved (natAbs (held z)) ≡ transferOf z e l
     told-some q i = sym (rw (ne-eqb (natAbs (held z)) 0 q, min-eq-left {n = natAbs (held z)} {m = l} (omega (arith, i))) refl) ∙ told-moved q
 
-    pub told-all : (natAbs (held z) ≡ 0 → ⊥) → l ≤ natAbs (held z) → o.Moved l ≡ outcomeOf z e l
+    pub told-all : (natAbs (held z) ≡ 0 → ⊥) → l ≤ natAbs (held z) → o.Moved l ≡ transferOf z e l
     told-all q i = sym (rw (ne-eqb (natAbs (held z)) 0 q, min-eq-right {n = l} {m = natAbs (held z)} i) refl) ∙ told-moved q
 
 -- bytes that moved are one or more, and no more than were lent
-some-moved : (z e : ℤ) (l n : ℕ) → Moved l z → o.Moved n ≡ outcomeOf z e l → (1 ≤ n) × (n ≤ l)
+some-moved : (z e : ℤ) (l n : ℕ) → Moved l z → o.Moved n ≡ transferOf z e l → (1 ≤ n) × (n ≤ l)
 some-moved (pos zero) e l n m q = absurd (true≢false (ap isMoved q))
   where
-    isMoved : Outcome → Bool
+    isMoved : Transfer → Bool
     isMoved (o.Moved k) = true
     isMoved o.End = false
     isMoved o.Again = false
@@ -87,7 +87,7 @@ some-moved (negsuc k) e l n m q = go (passing e) q
     go true x = let y : _≡_ {A = ℕ} 0 1 = cc in absurd (omega (arith, y))
     go false x = let y : _≡_ {A = ℕ} 0 1 = cc in absurd (omega (arith, y))
 
-pub moved-within : (l n : ℕ) (r : Outcome) → Answered l r → r ≡ o.Moved n → (1 ≤ n) × (n ≤ l)
+pub moved-within : (l n : ℕ) (r : Transfer) → CameTo l r → r ≡ o.Moved n → (1 ≤ n) × (n ≤ l)
 moved-within l n r a q = some-moved (a .got) (a .error) l n (a .moved) (sym q ∙ a .told)
 
 -- ── a part ──
@@ -116,7 +116,7 @@ module _ (p : Part) (l : List ℕ) (i : Inside p l) where
   pub used-inside : (n : ℕ) → n ≤ length (unused p l) → p .at + n ≤ p .end
   used-inside n h = omega (arith, i .0, h, unused-length)
 
-  pub moved-inside : (n : ℕ) (r : Outcome) → Answered (length (unused p l)) r → r ≡ o.Moved n → p .at + n ≤ p .end
+  pub moved-inside : (n : ℕ) (r : Transfer) → CameTo (length (unused p l)) r → r ≡ o.Moved n → p .at + n ≤ p .end
   moved-inside n r a q = used-inside n (moved-within (length (unused p l)) n r a q .1)
 
   pub rest-inside : (n : ℕ) (q : Part) → p .at + n ≤ p .end → Rest n p q → Inside q l

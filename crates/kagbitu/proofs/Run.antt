@@ -12,7 +12,7 @@ use Rattle.line_server.specs.declared.Server.{Server}
 use Rattle.line_server.proofs.Input.{input-served, input-meets, input-holds}
 use Rattle.kagbitu.specs.Part.{unused, First, Rest}
 use Rattle.kagbitu.specs.declared.part.Part.{Part}
-use Rattle.kagbitu.specs.Run.{Run, starts, reads, feeds, Ran, RunLeads, RunServed, Started, Ended, Whole, AllServed}
+use Rattle.kagbitu.specs.Run.{Run, starts, reads, feeds, SomeRun, RunLeads, RunServed, Started, Ended, Whole, AllServed}
 use Rattle.kagbitu.proofs.Laws.{none-unused, first-unused, rest-unused}
 
 -- ── one piece more ──
@@ -79,30 +79,30 @@ all-served t e out u f =
 
 -- ── the turns of the loop ──
 module _ (s : Server) (n : ℕ) where
-  pub ran-none : (p : Part) (piece : List ℕ) → n ≡ 0 → p .at ≡ p .end → Ran s n s (unused p piece)
-  ran-none p piece e h = subst (λ m. Ran s m s (unused p piece)) (sym e) (subst (Ran s 0 s) (sym (none-unused p piece h)) (record { bytes = []; answers = []; run = starts }))
+  pub ran-none : (p : Part) (piece : List ℕ) → n ≡ 0 → p .at ≡ p .end → SomeRun s n s (unused p piece)
+  ran-none p piece e h = subst (λ m. SomeRun s m s (unused p piece)) (sym e) (subst (SomeRun s 0 s) (sym (none-unused p piece h)) (record { bytes = []; answers = []; run = starts }))
 
-  module _ (t : Server) (p : Part) (piece : List ℕ) (r : Ran s n t (unused p piece)) where
+  module _ (t : Server) (p : Part) (piece : List ℕ) (r : SomeRun s n t (unused p piece)) where
     -- nothing is unused, whatever the buffer holds
-    pub ran-again : p .at ≡ p .end → (buffer : List ℕ) → Ran s n t (unused p buffer)
-    ran-again h buffer = subst (Ran s n t) (none-unused p piece h ∙ sym (none-unused p buffer h)) r
+    pub ran-again : p .at ≡ p .end → (buffer : List ℕ) → SomeRun s n t (unused p buffer)
+    ran-again h buffer = subst (SomeRun s n t) (none-unused p piece h ∙ sym (none-unused p buffer h)) r
 
     -- where the input ends, nothing is unused
     pub ran-all : p .at ≡ p .end → Started s → Ended t
-    ran-all h st = record { first = s; started = st; turns = n; ran = subst (Ran s n t) (none-unused p piece h) r }
+    ran-all h st = record { first = s; started = st; turns = n; ran = subst (SomeRun s n t) (none-unused p piece h) r }
 
     module _ (m : ℕ) (e : m ≡ n + 1) where
       -- a turn that read the first k bytes of the buffer, where nothing was unused
-      pub ran-read : p .at ≡ p .end → (buffer : List ℕ) (k : ℕ) → 1 ≤ k → k ≤ length buffer → (q : Part) → First k q → Ran s m t (unused q buffer)
+      pub ran-read : p .at ≡ p .end → (buffer : List ℕ) (k : ℕ) → 1 ≤ k → k ≤ length buffer → (q : Part) → First k q → SomeRun s m t (unused q buffer)
       ran-read h buffer k o w q f =
-          let r′ = subst (Ran s n t) (none-unused p piece h) r in
-          subst (λ i. Ran s i t (unused q buffer)) (sym (e ∙ add-one n))
-          (subst (Ran s (suc n) t) (sym (first-unused k q buffer f)) (record { bytes = r′ .bytes ++ take k buffer; answers = r′ .answers; run = reads (r′ .run) buffer k (record { some = o; within = w }) }))
+          let r′ = subst (SomeRun s n t) (none-unused p piece h) r in
+          subst (λ i. SomeRun s i t (unused q buffer)) (sym (e ∙ add-one n))
+          (subst (SomeRun s (suc n) t) (sym (first-unused k q buffer f)) (record { bytes = r′ .bytes ++ take k buffer; answers = r′ .answers; run = reads (r′ .run) buffer k (record { some = o; within = w }) }))
 
       -- a turn that fed what was unused
       pub ran-fed : keptServer s ≡ true → (out : List ℕ) (u : Server) → (keptServer t ≡ true → Fed t (unused p piece) out u) → (1 ≤ u .used) → u .used ≤ length (unused p piece)
-          → (q : Part) → Rest (u .used) p q → Ran s m u (unused q piece)
+          → (q : Part) → Rest (u .used) p q → SomeRun s m u (unused q piece)
       ran-fed k out u f o w q h =
           let fed = f (run-kept s n (r .bytes) (r .answers) t (unused p piece) k (r .run)) in
-          subst (λ i. Ran s i u (unused q piece)) (sym (e ∙ add-one n))
-          (subst (Ran s (suc n) u) (sym (rest-unused (u .used) p q piece h)) (record { bytes = r .bytes; answers = r .answers ++ take (u .wrote) out; run = feeds (r .run) out u (record { fed = fed; some = o; within = w }) }))
+          subst (λ i. SomeRun s i u (unused q piece)) (sym (e ∙ add-one n))
+          (subst (SomeRun s (suc n) u) (sym (rest-unused (u .used) p q piece h)) (record { bytes = r .bytes; answers = r .answers ++ take (u .wrote) out; run = feeds (r .run) out u (record { fed = fed; some = o; within = w }) }))

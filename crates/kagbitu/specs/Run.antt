@@ -46,7 +46,7 @@ pub data Run (s : Server) : ℕ → List ℕ → List ℕ → Server → List �
       → (out : List ℕ) (u : Server) → FedSome t unused out u → Run s (suc n) bytes (answers ++ take (u .wrote) out) u (drop (u .used) unused)
 
 -- some bytes read and answered in so many turns
-pub record Ran (s : Server) (n : ℕ) (t : Server) (unused : List ℕ) : Type 0 where
+pub record SomeRun (s : Server) (n : ℕ) (t : Server) (unused : List ℕ) : Type 0 where
   pub bytes : List ℕ
   pub answers : List ℕ
   pub run : Run s n bytes answers t unused
@@ -62,7 +62,7 @@ pub record Ended (t : Server) : Type 0 where
   pub first : Server
   pub started : Started first
   pub turns : ℕ
-  pub ran : Ran first turns t []
+  pub ran : SomeRun first turns t []
 
 -- ── what holds of a run; the proofs are proofs/Run ──
 -- the bytes read are those that the server has taken, piece by piece, and then the unused; those answered are its answers

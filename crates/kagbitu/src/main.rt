@@ -1,33 +1,33 @@
 // The line program: lines of standard input served one after the other on a plant that starts empty, their answers on standard output.
-mod outcome;
 mod part;
+mod transfer;
 
 ghost use Prim.Native.Nat.{_≤_};
 ghost use mathlib.Core.Path.{_≡_};
 ghost use lib.ListN.{length};
 ghost use Rattle.line_print.specs.Line.{longest};
-ghost use Rattle.kagbitu.specs.Outcome.{Answered};
+ghost use Rattle.kagbitu.specs.Transfer.{CameTo};
 ghost use Rattle.kagbitu.specs.Part.{Inside};
 ghost use Rattle.kagbitu.specs.Run.{Turned, Ended, AllServed};
 use libc::STDIN_FILENO;
 use libc::STDOUT_FILENO;
 use line_server::Server;
-use outcome::Outcome;
 use part::Part;
+use transfer::Transfer;
 
-fn read(piece: &mut [u8]) -> Outcome
-    ensures { λ r. ⌜ Answered (length (now (piece .entry))) r ⌝ }
+fn read(piece: &mut [u8]) -> Transfer
+    ensures { λ r. ⌜ CameTo (length (now (piece .entry))) r ⌝ }
 {
     let lent = piece.len();
     let got = libc::read(STDIN_FILENO, piece);
-    outcome::told(got, os::errno(), lent)
+    transfer::told(got, os::errno(), lent)
 }
 
-fn write_some(out: &[u8]) -> Outcome
-    ensures { λ r. ⌜ Answered (length (now (out .entry))) r ⌝ }
+fn write_some(out: &[u8]) -> Transfer
+    ensures { λ r. ⌜ CameTo (length (now (out .entry))) r ⌝ }
 {
     let got = libc::write(STDOUT_FILENO, out);
-    outcome::told(got, os::errno(), out.len())
+    transfer::told(got, os::errno(), out.len())
 }
 
 // Others run first. A wait for a time would take a struct behind a reference, whose proof is a long one by hand for a case that is rare.
@@ -36,8 +36,8 @@ fn wait() {
 }
 
 // Only a read that failed is said to have failed, and the line that has begun is not run.
-fn unread(read: Outcome)
-    requires { ⌜ read ≡ Outcome.Failed ⌝ }
+fn unread(read: Transfer)
+    requires { ⌜ read ≡ Transfer.Failed ⌝ }
 {
     os::fail(b"kagbitu: standard input");
 }
@@ -59,8 +59,8 @@ fn write(out: &[u8]) -> bool {
         let end = rest.end;
         let wrote = write_some(&out[at..end]);
         match wrote {
-            Outcome::Moved(n) => rest = rest.after(n),
-            Outcome::Again => wait(),
+            Transfer::Moved(n) => rest = rest.after(n),
+            Transfer::Again => wait(),
             _ => {
                 unwritten();
                 return false;
@@ -71,8 +71,8 @@ fn write(out: &[u8]) -> bool {
 }
 
 // The end of input ends a line that has begun. Nothing else does but byte 10: so what the read came to is asked for.
-fn finish(server: Server, read: Outcome, out: &mut [u8]) -> usize
-    requires { ⌜ read ≡ Outcome.End ⌝ }
+fn finish(server: Server, read: Transfer, out: &mut [u8]) -> usize
+    requires { ⌜ read ≡ Transfer.End ⌝ }
     requires { ⌜ Ended server ⌝ }
     ensures within { λ r. ⌜ r ≤ length (now (out .entry)) ⌝ }
     ensures serves { λ r. ⌜ (longest ≤ length (now (out .entry)) → AllServed server (now (out .exit)) r) ⌝ }
@@ -116,23 +116,23 @@ fn main() {
         if part.is_empty() {
             let got = read(&mut piece);
             match got {
-                Outcome::Moved(n) => {
+                Transfer::Moved(n) => {
                     part = Part::first(n);
                     turns -= 1;
                 }
-                Outcome::End => {
+                Transfer::End => {
                     let wrote = finish(server, got, &mut out);
                     write(&out[..wrote]);
                     return;
                 }
-                Outcome::Again => {
+                Transfer::Again => {
                     if tries == 0 {
                         return;
                     }
                     tries -= 1;
                     wait();
                 }
-                Outcome::Failed => {
+                Transfer::Failed => {
                     unread(got);
                     return;
                 }

@@ -7,7 +7,7 @@ use mathlib.Core.Path.{_≡_, sym, _∙_}
 use borrow.Author.Tests.{eqb-true}
 use native.Mathlib.Omega.{arith}
 use Rattle.kagbitu.specs.Part.{unused, Inside}
-use Rattle.kagbitu.specs.Run.{Ran, Started}
+use Rattle.kagbitu.specs.Run.{SomeRun, Started}
 use Rattle.kagbitu.proofs.Laws.{moved-within, used-inside, used-some, rest-inside}
 use Rattle.kagbitu.proofs.Run.{ran-none, ran-again, ran-read, ran-fed, ran-all}
 use Rattle.kagbitu.proofs.main.Statement.{statement}
@@ -15,7 +15,7 @@ use Rattle.kagbitu.proofs.main.Tie as tie
 
 abbrev Inv-loop : tie.InvT-loop
 Inv-loop piece₀ out₀ server₀ part₀ turns₀ tries₀ piece out server part turns tries =
-    Ran server₀ (turns₀ - turns) server (unused part piece) × (Started server₀ × (Inside part piece × ((65536 ≡ length piece) × ((65536 ≡ length out) × (turns ≤ turns₀)))))
+    SomeRun server₀ (turns₀ - turns) server (unused part piece) × (Started server₀ × (Inside part piece × ((65536 ≡ length piece) × ((65536 ≡ length out) × (turns ≤ turns₀)))))
 
 abbrev μ-loop : tie.MeasureT-loop
 μ-loop piece₀ out₀ server₀ part₀ turns₀ tries₀ piece out server part turns tries = turns + tries

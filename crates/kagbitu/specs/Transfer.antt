@@ -5,8 +5,8 @@ use mathlib.Core.Bool.{Bool, cond, _||_}
 use lib.Dec.{eqb}
 use lib.IntN.{ℤ, pos, negsuc}
 use Rattle.libc.specs.Io.{Moved}
-use Rattle.kagbitu.specs.declared.outcome.Outcome.{Outcome}
-use Rattle.kagbitu.specs.declared.outcome.Outcome.the-variants as o
+use Rattle.kagbitu.specs.declared.transfer.Transfer.{Transfer}
+use Rattle.kagbitu.specs.declared.transfer.Transfer.the-variants as o
 
 -- a signal came before a byte moved; nothing can move without waiting
 abbrev pub interrupted : ℕ
@@ -21,13 +21,13 @@ passing (pos n) = eqb n interrupted || eqb n wouldWait
 passing (negsuc n) = Bool.false
 
 -- 0 is the end, and any other number that is not negative so many bytes; a negative one is a failure, passing or not
-abbrev pub outcomeOf : ℤ → ℤ → ℕ → Outcome
-outcomeOf (pos n) error lent = cond (eqb n 0) o.End (o.Moved (min n lent))
-outcomeOf (negsuc n) error lent = cond (passing error) o.Again o.Failed
+abbrev pub transferOf : ℤ → ℤ → ℕ → Transfer
+transferOf (pos n) error lent = cond (eqb n 0) o.End (o.Moved (min n lent))
+transferOf (negsuc n) error lent = cond (passing error) o.Again o.Failed
 
 -- what a call that was lent so many bytes came to
-pub record Answered (lent : ℕ) (r : Outcome) : Type 0 where
+pub record CameTo (lent : ℕ) (r : Transfer) : Type 0 where
   pub got : ℤ
   pub error : ℤ
   pub moved : Moved lent got
-  pub told : r ≡ outcomeOf got error lent
+  pub told : r ≡ transferOf got error lent

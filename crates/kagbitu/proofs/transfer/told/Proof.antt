@@ -3,8 +3,8 @@ use lib.Dec.{lit<}
 use mathlib.Core.Path.{refl}
 use Rattle.arguments.proofs.Numbers.{natural-fits}
 use Rattle.kagbitu.proofs.Laws.{told-again, told-failed, told-end, told-some, told-all}
-use Rattle.kagbitu.proofs.outcome.told.Statement.{statement}
-use Rattle.kagbitu.proofs.outcome.told.Tie as tie
+use Rattle.kagbitu.proofs.transfer.told.Statement.{statement}
+use Rattle.kagbitu.proofs.transfer.told.Tie as tie
 
 returns : tie.Need-returns
 returns c = let s = c .before .before in told-again (s .args .got) (s .fits .got) (s .args .error) (s .args .lent) (c .before .if1 .taken) (s .fits .error) 4 (lit< tt) (c .if2 .taken) refl
