@@ -23,6 +23,7 @@ use Rattle.keys.specs.declared.Keys.{Keys}
 use Rattle.lists.specs.Table.{counted}
 use Rattle.lists.proofs.Loops.{Removing, remove-start, remove-end, length-dropAt}
 use Rattle.lists.proofs.Views.{counted-length, take-map, Remaking, remake-start}
+use Rattle.lists.proofs.Indexed.{any-false}
 use Rattle.lists.proofs.Forms.{form-parts, parts-form, form-empty, used-at}
 use Rattle.lists.proofs.Remake.{form-set}
 use Rattle.cache.specs.cached.View.{noCached, viewCached, afterChanges}
@@ -138,15 +139,11 @@ keep-all : {A : Type 0} (p : A → Bool) (l : List A) → ((x : A) → p x ≡ t
 keep-all p [] h = refl
 keep-all p (x ∷ l) h = rw (h x) (ap (λ r. x ∷ r) (keep-all p l h))
 
-never : {A : Type 0} (l : List A) → any (λ x. false) l ≡ false
-never [] = refl
-never (x ∷ l) = never l
-
 pub none-lost : (t : Cache) (keys : Keys) (lost : ℕ) → lost ≡ 0 → viewCache t ≡ keep (stays (docs lost) (viewKeys keys)) (viewCache t)
 unfolding stays inDocuments
 none-lost t keys lost e =
     keep-all (stays (docs lost) (viewKeys keys)) (viewCache t)
-    (λ c. rw (e, docs-none) (ap not (never (viewKeys keys (c .key)))))
+    (λ c. rw (e, docs-none) (ap not (any-false (λ q. false) (λ q. refl) (viewKeys keys (c .key)))))
 
 -- ── all brought up to date ──
 pub record Dating (cs : List C.Update) (keys : ℕ → List S.Place) (t r : Cache) (n i : ℕ) : Type 0 where

@@ -25,7 +25,7 @@ held-is z h = toZ-ofZ {w = w32} {z = z} (sfits-of h)
 
 -- ── the sum of two numbers of 32 bits has 64 ──
 -- a number that is read back after a cast to 64 bits
-abbrev wide : ℤ → ℤ
+abbrev pub wide : ℤ → ℤ
 wide z = toZ w64 (ofZ w64 (held z))
 
 mag-cond : (t : Bool) (m n k : ℕ) → m < k → n < k → mag (cond t (negsuc m) (pos n)) < k
@@ -42,7 +42,7 @@ module _ (a : ℤ) (h : SFits w32 a) where
   pub held-fits : SFits w64 (held a)
   held-fits = rw (toZ-ofZ h) (sfits-widen tt h)
 
-  wide-is : wide a ≡ a
+  pub wide-is : wide a ≡ a
   wide-is = toZ-ofZ held-fits ∙ toZ-ofZ h
 
 module _ (a b : ℤ) (h : SFits w32 a) (i : SFits w32 b) where

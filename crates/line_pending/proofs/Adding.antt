@@ -11,20 +11,15 @@ use lib.Dec.{leb}
 use borrow.Author.Tests.{le-leb, leb-false, leb-true}
 use Rattle.rules.specs.Lists.{isEmpty}
 use Rattle.rules.proofs.Laws.{byCase}
+use Rattle.lists.proofs.Loops.{take-min}
 use Rattle.line_pending.specs.View.{viewPending}
 use Rattle.line_pending.specs.declared.Pending.{Pending}
 
-module _ {A : Type 0} where
-  take-min : (m : ℕ) (l : List A) → take (min m (length l)) l ≡ take m l
-  take-min m l =
-      let q = min m (length l) in
-      sym (take-take q m l (omega arith)) ∙ take-all q (take m l) (rw (length-take m l) (omega arith))
-
-  take-both : (m n : ℕ) (l : List A) → take m (take n l) ≡ take (min m n) l
-  take-both m n l =
-      byCase (leb m n)
-      (λ t. let w = leb-true m n t in let e : min m n ≡ m = omega arith in rw e (take-take m n l w))
-      (λ t. let w = leb-false m n t in let e : min m n ≡ n = omega arith in rw e (take-all m (take n l) (rw (length-take n l) (omega arith))))
+take-both : {A : Type 0} (m n : ℕ) (l : List A) → take m (take n l) ≡ take (min m n) l
+take-both m n l =
+    byCase (leb m n)
+    (λ t. let w = leb-true m n t in let e : min m n ≡ m = omega arith in rw e (take-take m n l w))
+    (λ t. let w = leb-false m n t in let e : min m n ≡ n = omega arith in rw e (take-all m (take n l) (rw (length-take n l) (omega arith))))
 
 nested : (a b c : ℕ) → min (min a b) c ≡ min a (min b c)
 nested a b c = omega arith

@@ -45,6 +45,11 @@ all-index p (x ∷ l) (suc i) d h a = all-index p l i d (omega arith) (all-tail 
 pub none-index : {A : Type 0} (p : A → Bool) (l : List A) (i : ℕ) (d : A) → i < length l → any p l ≡ false → p (getD l i d) ≡ false
 none-index p l i d h a = not-true (p (getD l i d)) (all-index (λ x. not (p x)) l i d h (any-none p l a))
 
+-- none has what none can have
+pub any-false : {A : Type 0} (f : A → Bool) → ((a : A) → f a ≡ false) → (l : List A) → any f l ≡ false
+any-false f h [] = refl
+any-false f h (x ∷ l) = rw (h x) (any-false f h l)
+
 pub all-set : {A : Type 0} (p : A → Bool) (l : List A) (i : ℕ) (a : A) → all p l ≡ true → p a ≡ true → all p (set l i a) ≡ true
 all-set p [] i a e h = refl
 all-set p (x ∷ l) zero a e h = both (p a) (all p l) h (all-tail p x l e)

@@ -3,12 +3,12 @@
 use mathlib.Core.Path.{_≡_, refl, _∙_, ap, sym}
 use mathlib.Core.Bool.{Bool, true, false}
 use mathlib.Core.List.{List, [], _∷_, _++_, append-nil, append-assoc, map}
-use Prim.Native.Nat.{ℕ, zero, suc, _+_, _-_, _≤_, _<_}
+use Prim.Native.Nat.{ℕ, zero, suc, _+_, _-_, _≤_, _<_, min}
 use native.Mathlib.Numerals.{add-one}
 use native.Mathlib.Nat.{not-suc-le-zero, le-of-suc-le-suc}
 use native.Mathlib.Omega.{arith}
 use lib.ListN.{take-append-drop, length, getD, take, drop, set, drop-of-length-le, length-take, length-drop, length-append, length-map, List·getD-append}
-use lib.Seq.{drop-cons, getD-take, set-at, append-snoc, take-suc, length-take-le, take-all, take-at, drop-at, getD-at}
+use lib.Seq.{drop-cons, getD-take, set-at, append-snoc, take-suc, length-take-le, take-all, take-at, take-take, drop-at, getD-at}
 use Rattle.rules.specs.Lists.{dropAt}
 use Rattle.lists.specs.Find.{firstAt}
 
@@ -19,6 +19,12 @@ module _ {A : Type 0} (d : A) where
   -- the same where only the first n elements count
   pub drop-take-next : (n : ℕ) (xs : List A) (i : ℕ) → i < n → i < length xs → drop i (take n xs) ≡ getD xs i d ∷ drop (i + 1) (take n xs)
   drop-take-next n xs i h l = drop-next (take n xs) i (simp length-take (omega arith)) ∙ ap (λ (x : A). x ∷ drop (i + 1) (take n xs)) (getD-take n xs i d h)
+
+-- as many as there are, at most
+pub take-min : {A : Type 0} (m : ℕ) (l : List A) → take (min m (length l)) l ≡ take m l
+take-min m l =
+    let q = min m (length l) in
+    sym (take-take q m l (omega arith)) ∙ take-all q (take m l) (rw (length-take m l) (omega arith))
 
 module _ {A : Type 0} (p : A → Bool) (none : ℕ) where
   pub first-hit : {x : A} {l ys : List A} {i : ℕ} → l ≡ x ∷ ys → p x ≡ true → firstAt p none i l ≡ i

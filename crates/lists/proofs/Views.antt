@@ -179,6 +179,11 @@ module _ {A B : Type 0} {view : A → B} {p : B → Bool} {n k : ℕ} {xs : List
   pub keep-past : k ≤ i → acc ≡ whole
   keep-past h = sym (inv .rest ∙ simp (counted-gone view n xs i k (inv .long) (inr h), append-nil))
 
+-- what is the same whatever a test tells
+pub either : {A : Type 0} (t : Bool) (x : A) → x ≡ cond t x x
+either true x = refl
+either false x = refl
+
 -- one entry of it: kept unless the test t picks it
 module _ {A : Type 0} (p t : Bool) (a : t ≡ p) (x y : A) where
   pub unless-picked : t ≡ true → y ≡ cond (not p) x y

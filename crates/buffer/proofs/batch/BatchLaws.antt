@@ -8,6 +8,7 @@ use Rattle.rules.specs.Lists.{has}
 use Rattle.rules.specs.Values as S
 use Rattle.rules.specs.Changes as C
 use Rattle.rules.proofs.Words.{run-untouched}
+use Rattle.lists.proofs.Views.{either}
 use Rattle.changes.specs.View.{viewChanges}
 use Rattle.changes.specs.Form.{changesForm}
 use Rattle.changes.specs.declared.Changes.{Changes}
@@ -18,10 +19,6 @@ use Rattle.buffer.specs.declared.batch.Batch.{Batch}
 pub unused-is : (cs : Changes) → viewChanges cs ≡ [] → changesForm cs ≡ true → isUnused (record { number = 0; changes = cs }) ≡ true
 unfolding isUnused
 unused-is cs n e = rw (n, e)
-
-either : {A : Type 0} (t : Bool) (x : A) → x ≡ cond t x x
-either true x = refl
-either false x = refl
 
 -- a session without a change at the place leaves its field, whether the store has it or not
 pub carried-past : (b : Batch) (rows : List ℕ) (q : S.Place) (f : S.Field) {t : Bool} → t ≡ C.touches (viewChanges (b .changes)) q → not t ≡ true → f ≡ carry rows q f (viewBatch b)

@@ -7,16 +7,15 @@ use mathlib.Core.Bool.{false, cond}
 use mathlib.Core.Option.{Option, none, some}
 use mathlib.Core.List.{List, [], _∷_}
 use lib.ListN.{length, getD, take, drop, drop-of-length-le, length-drop, length-take}
-use lib.Dec.{eqb, leb, lit<}
-use lib.Seq.{take-all, take-length}
+use lib.Dec.{eqb, lit<}
 use lib.IntN.{ℤ, pos, negℤ, _-ℤ_, +ℤ-idl}
 use mir.Syntax.{w8, w64}
 use mir.Val.{Fits, SFits, toZ, ofZ}
 use mir.Facts.{toZ-ofZ, toZ-pos}
-use borrow.Author.Tests.{lt-ltb, le-ltb, le-leb, lt-leb, eq-eqb, ne-eqb, leb-true, leb-false, eqb-true, eqb-false}
+use borrow.Author.Tests.{lt-ltb, le-ltb, le-leb, lt-leb, eq-eqb, ne-eqb, eqb-true, eqb-false}
 use Rattle.rules.specs.Lists.{all}
 use Rattle.rules.proofs.Laws.{byCase}
-use Rattle.lists.proofs.Loops.{drop-next}
+use Rattle.lists.proofs.Loops.{drop-next, take-min}
 use Rattle.line_format.specs.Bytes.{space, minus, digitZero, digitNine, base, callWidth, numberWidth}
 use Rattle.line_format.specs.Columns.{isDigit, valueAfter, natural, trimmed, plain, negative, naturalIn, integerIn}
 use Rattle.line_format.specs.Lines.{callIn}
@@ -184,19 +183,10 @@ pub past-none : (l : List ℕ) (at : ℕ) → length l < at → none ≡ integer
 unfolding integerIn
 past-none l at h = let q : length l ≤ at = omega arith in rw (drop-of-length-le l q)
 
-take-least : {A : Type 0} (k : ℕ) (l : List A) → take (min k (length l)) l ≡ take k l
-take-least k l =
-    byCase (leb k (length l))
-    (λ t. let q : min k (length l) ≡ k = omega (arith, leb-true k (length l) t) in rw q)
-    (λ t.
-    let u = leb-false k (length l) t in
-    let q : min k (length l) ≡ length l = omega arith in
-    rw q (take-length l ∙ sym (take-all k l (omega arith))))
-
 pub columns-integer : (l : List ℕ) (at n : ℕ) {r : Option ℤ} → n ≡ min numberWidth (length l - at) → r ≡ integerIn (take (at + n - at) (drop at l)) → r ≡ integerIn (take numberWidth (drop at l))
 columns-integer l at n e q =
     let o : at + n - at ≡ min numberWidth (length l - at) = omega arith in
-    q ∙ ap integerIn (rw (o, ← length-drop at l) (take-least numberWidth (drop at l)))
+    q ∙ ap integerIn (rw (o, ← length-drop at l) (take-min numberWidth (drop at l)))
 
 -- ── the call column ──
 module _ (l : List ℕ) where

@@ -9,17 +9,12 @@ use lib.IntN.{ℤ, pos, negsuc, natAbs, _-ℤ_}
 use lib.Signed.{ltZ, mag, nonNeg}
 use mir.Syntax.{w32, w64}
 use mir.Val.{Fits, SFits, toZ, ofZ}
-use mir.Facts.{toZ-ofZ, sfits-widen}
+use mir.Facts.{toZ-ofZ}
 use borrow.Author.Tests.{le-ltb}
+use Rattle.field.proofs.Signed.{held, wide, wide-is}
 use Rattle.line_format.specs.Bytes.{numberWidth}
 use Rattle.line_format.specs.Columns.{isNegative, magnitude, digitsIn, column}
 use Rattle.line_print.specs.columns.Printed.{printed}
-
-abbrev held : ℤ → ℤ
-held z = toZ w32 (ofZ w32 z)
-
-abbrev wide : ℤ → ℤ
-wide z = toZ w64 (ofZ w64 (held z))
 
 -- the test of the sign
 negative-is : (z : ℤ) → ltZ z (pos 0) ≡ isNegative z
@@ -43,18 +38,12 @@ casts : (x : ℤ) (m : ℕ) → x ≡ pos m → m ≤ 2 ^ 31 → T (nonNeg x) ×
 casts x m e h = rw e (tt, record { fits = omega arith })
 
 module _ (z : ℤ) (h : SFits w32 z) where
-  pub wide-fits : SFits w64 (held z)
-  wide-fits = rw (toZ-ofZ h) (sfits-widen tt h)
-
-  wide-is : wide z ≡ z
-  wide-is = toZ-ofZ wide-fits ∙ toZ-ofZ h
-
   pub sign-is : ltZ (held z) (pos 0) ≡ isNegative z
   sign-is = rw (toZ-ofZ h) (negative-is z)
 
   module _ (t : ltZ (wide z) (pos 0) ≡ true) where
     minus-is : pos 0 -ℤ wide z ≡ pos (magnitude z)
-    minus-is = rw wide-is (negated z (sym (negative-is z) ∙ rw wide-is at t))
+    minus-is = rw (wide-is z h) (negated z (sym (negative-is z) ∙ rw (wide-is z h) at t))
 
     pub minus-fits : SFits w64 (pos 0 -ℤ wide z)
     minus-fits = rw minus-is (record { sfits = omega (arith, small z (h .sfits)) })
@@ -70,7 +59,7 @@ module _ (z : ℤ) (h : SFits w32 z) where
 
   module _ (t : ltZ (wide z) (pos 0) ≡ false) where
     plus-is : wide z ≡ pos (magnitude z)
-    plus-is = wide-is ∙ same z (sym (negative-is z) ∙ rw wide-is at t)
+    plus-is = wide-is z h ∙ same z (sym (negative-is z) ∙ rw (wide-is z h) at t)
 
     pub plus-casts : T (nonNeg (wide z)) × Fits w64 (natAbs (wide z))
     plus-casts = casts _ (magnitude z) plus-is (small z (h .sfits))

@@ -3,7 +3,6 @@ use Prim.Native.Nat.{ℕ, _+_, _-_, _≤_}
 use native.Mathlib.Omega.{arith}
 use mathlib.Core.Path.{_≡_, refl, sym, _∙_, ap, fun-ext}
 use mathlib.Core.Bool.{Bool, true, false, not, cond, _&&_}
-use mathlib.Core.List.{List, [], _∷_}
 use lib.Dec.{leb}
 use lib.ListN.{getD}
 use borrow.Author.Tests.{le-leb, lt-leb, leb-true, leb-false, not-true, not-false}
@@ -12,6 +11,8 @@ use Rattle.rules.specs.Lists.{any}
 use Rattle.rules.specs.Tables as M
 use Rattle.rules.specs.Effects.{lapses, lapse, loses}
 use Rattle.rules.proofs.Laws.{byCase}
+use Rattle.rules.proofs.Buffer.{and-false}
+use Rattle.lists.proofs.Indexed.{any-false}
 use Rattle.docset.specs.Sets.{docs}
 use Rattle.docset.proofs.SetLaws.{docs-none}
 use Rattle.sessions.specs.declared.session.Session.{Session}
@@ -28,10 +29,6 @@ over-is sh ex t clock d = go (ex d) (sh d)
     go false true = refl
     go false false = refl
 
-any-false : (f : ℕ → Bool) → ((d : ℕ) → f d ≡ false) → (l : List ℕ) → any f l ≡ false
-any-false f h [] = refl
-any-false f h (d ∷ l) = rw (h d) (any-false f h l)
-
 -- t ticks after the begin b
 module _ (b t clock : ℕ) where
   young : leb (b + leaseTicks) clock ≡ false → leb (b + t + leaseTicks) clock ≡ false
@@ -44,10 +41,6 @@ module _ (b t clock : ℕ) where
       (λ u. let a = leb-true t (clock - b - leaseTicks) u in u ∙ sym (le-leb (b + t + leaseTicks) clock (omega arith)))
       (λ u. let a = leb-false t (clock - b - leaseTicks) u in u ∙ sym (lt-leb (b + t + leaseTicks) clock (omega arith)))
 
-and-false : (x : Bool) → x && false ≡ false
-and-false true = refl
-and-false false = refl
-
 module _ (s : Session) (clock : ℕ) where
   module _ (b : Bool) (k : b ≡ leb (s .begun + leaseTicks) clock) where
     pub lapsed-early : not b ≡ true → false ≡ any (λ d. M.hasLapsed clock (viewSession s .lease d)) M.documents
@@ -58,7 +51,7 @@ module _ (s : Session) (clock : ℕ) where
         (λ d.
         over-is (docs (s .shared)) (docs (s .exclusive)) (ticks (s .begun) (s .granted)) clock d
         ∙ ap (λ (x : Bool). M.isHeld (viewSession s .lease d) && x) (young (s .begun) (getD (s .granted) d 0) clock (sym k ∙ not-true b h))
-        ∙ and-false (M.isHeld (viewSession s .lease d)))
+        ∙ and-false (M.isHeld (viewSession s .lease d)) false refl)
         M.documents)
 
     pub lapse-room : not b ≡ false → s .begun + leaseTicks ≤ clock

@@ -14,9 +14,10 @@ use Rattle.rules.specs.Values as S
 use Rattle.rules.specs.Tables as M
 use Rattle.rules.specs.Effects.{opened, documentIn, orShared, withShared, toExclusive, withExclusive, withLast, grant, onlyAt}
 use Rattle.rules.specs.Step.{count, heldShared, heldExclusive}
-use Rattle.rules.proofs.Laws.{byCase, and-true}
+use Rattle.rules.proofs.Laws.{byCase, and-true, or-false}
 use Rattle.rules.proofs.Tests.{all-head, all-tail}
 use Rattle.lists.specs.Find.{fold}
+use Rattle.lists.proofs.Views.{either}
 use Rattle.docset.specs.Sets.{docs}
 use Rattle.docset.proofs.SetLaws.{docs-none}
 use Rattle.keys.specs.declared.Place.{Place}
@@ -60,14 +61,8 @@ held-is sh ex t d = go (ex d) (sh d)
     go false true = refl
     go false false = refl
 
-neither : (x y : Bool) → y || x ≡ false → (x ≡ false) × (y ≡ false)
-neither true true e = absurd (true≢false e)
-neither true false e = absurd (true≢false e)
-neither false true e = absurd (true≢false e)
-neither false false e = (refl, refl)
-
 pub not-held : (sh ex : ℕ → Bool) (t : ℕ → ℕ) (d : ℕ) → M.isHeld (leases sh ex t d) ≡ false → (ex d ≡ false) × (sh d ≡ false)
-not-held sh ex t d e = neither (ex d) (sh d) (held-is sh ex t d ∙ e)
+not-held sh ex t d e = let n = or-false (sh d) (ex d) (held-is sh ex t d ∙ e) in (n .1, n .0)
 
 stays-held : (now : ℕ) (l : M.Lease) → M.isHeld l ≡ true → l ≡ orShared now l
 stays-held now M.free e = absurd (true≢false (sym e))
@@ -302,8 +297,4 @@ module _ (s : Session) (n now : ℕ) (c : Update) where
   module _ {b : Bool} (e : b ≡ eqb (viewSlot s .number) n || M.isHeld (viewSession s .lease (c .place .document))) where
     pub grant-none : b ≡ false → Granted s
     unfolding grantAt grant viewSlot viewUpdate viewPlace
-    grant-none t = let k = neither (M.isHeld (viewSession s .lease (c .place .document))) (eqb (s .number) n) (sym e ∙ t) in rw (k .0, k .1) (both-same (ltb (c .place .document) 64))
-      where
-        both-same : (x : Bool) → viewSlot s ≡ cond x (viewSlot s) (viewSlot s)
-        both-same true = refl
-        both-same false = refl
+    grant-none t = let k = or-false (eqb (s .number) n) (M.isHeld (viewSession s .lease (c .place .document))) (sym e ∙ t) in rw (k .1, k .0) (either (ltb (c .place .document) 64) (viewSlot s))

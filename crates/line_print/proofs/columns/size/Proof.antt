@@ -1,10 +1,11 @@
 -- `size` meets its contract.
-use Rattle.line_print.proofs.columns.WordLaws.{wide-fits, minus-fits, minus-casts, minus-size, plus-casts, plus-size}
+use Rattle.field.proofs.Signed.{held-fits}
+use Rattle.line_print.proofs.columns.WordLaws.{minus-fits, minus-casts, minus-size, plus-casts, plus-size}
 use Rattle.line_print.proofs.columns.size.Statement.{statement}
 use Rattle.line_print.proofs.columns.size.Tie as tie
 
 cast-wide : tie.Need-cast-wide
-cast-wide c = search wide-fits
+cast-wide c = search held-fits
 
 sub-result : tie.Need-sub-result
 sub-result c = search minus-fits
