@@ -8,6 +8,7 @@ use lib.IntN.{ℤ, pos}
 use lib.ListN.{length, length-map}
 use mir.Syntax.{w64}
 use mir.Val.{SFits}
+use mir.ValLaws.{toZ-ofZ}
 use borrow.Author.Tests.{not-false, ltb-true, ltb-false, le-leb}
 use Rattle.rules.specs.Limits.{keyCount, wordsPerField}
 use Rattle.rules.specs.Values as S
@@ -53,7 +54,9 @@ use Rattle.call_read_shown.specs.Fields.{ownOf, byMark, shownFields}
 use Rattle.call_read_shown.specs.declared.Marked.{Marked}
 use Rattle.call_read_shown.proofs.Kept.{shown-is, cache-is}
 use Rattle.call_read.specs.Left.{left}
-use Rattle.call_read.specs.Shows.{Shows, wordsBy, foundAnswer, foundWords}
+use Rattle.call_read.specs.Shows.{Shows, wordsBy, foundAnswer, foundWords, filledBy, Found}
+use Rattle.call_read.specs.declared.Seen.{Seen}
+use Rattle.call_read.proofs.Filled.{refused-leaves}
 use Rattle.call_read.proofs.Named.{named}
 
 -- ── the tables looked at are the plant's ──
@@ -133,10 +136,10 @@ module _ (p : Plant) (h : keptPlant p ≡ true) (n k : ℕ) (lent : List ℤ) (m
 -- ── the answer and the words ──
 module _ (p : Plant) (z : ℤ) (fz : SFits w64 z) (n : ℕ) (en : n ≡ sessionNumber (held z))
     (y : ℤ) (fy : SFits w64 y) (k : ℕ) (ek : k ≡ indexNumber (held y) keyCount)
-    (lent : List ℤ) (a : Answer) (ea : (words : List ℤ) → length lent ≡ length words → viewAnswer a ≡ answerBy (first (conditions (Read (pos n) (pos k)) words (sightAway (p .near) (p .keys) (p .cache) (p .sessions) (p .buffer)))) [])
+    (lent : List ℤ) (a : Answer) (ea : viewAnswer a ≡ answerBy (first (conditions (Read (pos n) (pos k)) lent (sightAway (p .near) (p .keys) (p .cache) (p .sessions) (p .buffer)))) [])
     (r : Bool) (er : r ≡ isRefused (viewAnswer a)) where
   as-told : viewAnswer a ≡ answerBy (first (conditions (Read (pos n) (pos k)) lent (viewPlant p))) []
-  as-told = ea lent refl ∙ ap (λ l. answerBy (first l) []) (same-conditions p n k lent)
+  as-told = ea ∙ ap (λ l. answerBy (first l) []) (same-conditions p n k lent)
 
   is-told : isRefused (answerBy (first (conditions (Read (pos n) (pos k)) lent (viewPlant p))) []) ≡ r
   is-told = ap isRefused (sym as-told) ∙ sym er
@@ -146,18 +149,27 @@ module _ (p : Plant) (z : ℤ) (fz : SFits w64 z) (n : ℕ) (en : n ≡ sessionN
   met = first (conditions (Read (pos n) (pos k)) lent (atHand p))
 
   met-is : isRefused (answerBy met []) ≡ r
-  met-is = ap isRefused (sym (ea lent refl)) ∙ sym er
+  met-is = ap isRefused (sym (ea)) ∙ sym er
 
-  abbrev Found : C.Answer → List ℤ → ℕ → ℕ → Type 0
-  Found b ws i j = (b ≡ answerBy (first (conditions (Read (pos i) (pos j)) lent (atHand p))) (markNumber (mark i j (atHand p)) ∷ [])) × (ws ≡ wordsBy (first (conditions (Read (pos i) (pos j)) lent (atHand p))) (shownFields i j (atHand p)) lent)
+  abbrev FoundAt : C.Answer → List ℤ → ℕ → ℕ → Type 0
+  FoundAt b ws i j = (b ≡ answerBy (first (conditions (Read (pos i) (pos j)) lent (atHand p))) (markNumber (mark i j (atHand p)) ∷ [])) × (ws ≡ wordsBy (first (conditions (Read (pos i) (pos j)) lent (atHand p))) (shownFields i j (atHand p)) lent)
 
-  found : (b : C.Answer) (ws : List ℤ) → Found b ws n k → (b ≡ foundAnswer z y lent (atHand p)) × (ws ≡ foundWords z y lent (atHand p))
+  found : (b : C.Answer) (ws : List ℤ) → FoundAt b ws n k → (b ≡ foundAnswer z y lent (atHand p)) × (ws ≡ foundWords z y lent (atHand p))
   unfolding foundAnswer foundWords
-  found b ws h = subst (Found b ws (sessionNumber z)) (indexed-is y fy keyCount k ek) (subst (λ i. Found b ws i k) (session-is z fz n en) h)
+  found b ws h = subst (FoundAt b ws (sessionNumber z)) (indexed-is y fy keyCount k ek) (subst (λ i. FoundAt b ws i k) (session-is z fz n en) h)
+
+  -- all that is promised of an answer and the words with it
+  abbrev FoundSo : C.Answer → List ℤ → Type 0
+  FoundSo b ws =
+      (p .near ≡ false → (b ≡ foundAnswer z y lent (atHand p)) × (ws ≡ foundWords z y lent (atHand p)))
+      × ((keptPlant p ≡ true → b ≡ result (Read z y) lent p .answer) × (keptPlant p ≡ true → ws ≡ result (Read z y) lent p .words))
 
   module _ (t : r ≡ true) where
-    pub turned-found : p .near ≡ false → (viewAnswer a ≡ foundAnswer z y lent (atHand p)) × (lent ≡ foundWords z y lent (atHand p))
-    turned-found h = let x = told-found met (markNumber (mark n k (atHand p)) ∷ []) (shownFields n k (atHand p)) lent (met-is ∙ t) in found (viewAnswer a) lent (ea lent refl ∙ x .0, x .1)
+    leaves-words : (fs : List S.Field) → filledBy a fs lent ≡ lent
+    leaves-words fs = sym (refused-leaves fs lent a (sym er ∙ t))
+
+    turned-found : (fs : List S.Field) → p .near ≡ false → (viewAnswer a ≡ foundAnswer z y lent (atHand p)) × (filledBy a fs lent ≡ foundWords z y lent (atHand p))
+    turned-found fs h = let x = told-found met (markNumber (mark n k (atHand p)) ∷ []) (shownFields n k (atHand p)) lent (met-is ∙ t) in found (viewAnswer a) (filledBy a fs lent) (ea ∙ x .0, leaves-words fs ∙ x .1)
 
     turned : (viewAnswer a ≡ result (Read (pos n) (pos k)) lent p .answer) × (lent ≡ result (Read (pos n) (pos k)) lent p .words)
     unfolding step
@@ -165,18 +177,21 @@ module _ (p : Plant) (z : ℤ) (fz : SFits w64 z) (n : ℕ) (en : n ≡ sessionN
         let s = told-refused (first (conditions (Read (pos n) (pos k)) lent (viewPlant p))) (Read (pos n) (pos k)) lent (chosen (viewPlant p)) (viewPlant p) (is-told ∙ t) in
         (as-told ∙ s .0, s .1)
 
-    pub turned-away : Answers (Read z y) lent p a
+    turned-away : Answers (Read z y) lent p a
     turned-away h = turned .0 ∙ ap (λ (x : C.Result). x .answer) (sym (named p z fz n en y fy k ek h lent))
 
-    pub none-touched : keptPlant p ≡ true → lent ≡ result (Read z y) lent p .words
-    none-touched h = turned .1 ∙ ap (λ (x : C.Result). x .words) (sym (named p z fz n en y fy k ek h lent))
+    none-touched : (fs : List S.Field) → keptPlant p ≡ true → filledBy a fs lent ≡ result (Read z y) lent p .words
+    none-touched fs h = leaves-words fs ∙ turned .1 ∙ ap (λ (x : C.Result). x .words) (sym (named p z fz n en y fy k ek h lent))
+
+    pub turned-so : (fs : List S.Field) → FoundSo (viewAnswer a) (filledBy a fs lent)
+    turned-so fs = (turned-found fs, (turned-away, none-touched fs))
 
   module _ (t : r ≡ false) where
-    pub shown-found : (m : Mark) → viewMark m ≡ mark n k (looked p n k) → (c : Cached) (ws : List ℤ) → viewCached c ≡ record { key = k; fields = shownFields n k (looked p n k) } → ws ≡ shownIn (viewCached c .fields) lent → p .near ≡ false
-        → (fine (markNumber (viewMark m) ∷ []) ≡ foundAnswer z y lent (atHand p)) × (ws ≡ foundWords z y lent (atHand p))
-    shown-found m em c ws ec ew h =
+    shown-found : (m : Mark) → viewMark m ≡ mark n k (looked p n k) → (c : Cached) → viewCached c ≡ record { key = k; fields = shownFields n k (looked p n k) } → p .near ≡ false
+        → (fine (markNumber (viewMark m) ∷ []) ≡ foundAnswer z y lent (atHand p)) × (shownIn (viewCached c .fields) lent ≡ foundWords z y lent (atHand p))
+    shown-found m em c ec h =
         let none : met ≡ none = told-none met (met-is ∙ t) in
-        found (fine (markNumber (viewMark m) ∷ [])) ws (rw none (ap (λ (x : C.Mark). fine (markNumber x ∷ [])) (em ∙ away-mark p n k)), rw none (ew ∙ ap (λ fs. shownIn fs lent) (ap (λ (x : M.Cached). x .fields) ec ∙ away-fields p n k h)))
+        found (fine (markNumber (viewMark m) ∷ [])) (shownIn (viewCached c .fields) lent) (rw none (ap (λ (x : C.Mark). fine (markNumber x ∷ [])) (em ∙ away-mark p n k)), rw none (ap (λ fs. shownIn fs lent) (ap (λ (x : M.Cached). x .fields) ec ∙ away-fields p n k h)))
 
     none-meets : NoneMet (conditions (Read (pos n) (pos k)) lent (viewPlant p))
     none-meets = none-met (conditions (Read (pos n) (pos k)) lent (viewPlant p)) (told-none (first (conditions (Read (pos n) (pos k)) lent (viewPlant p))) (is-told ∙ t))
@@ -184,12 +199,19 @@ module _ (p : Plant) (z : ℤ) (fz : SFits w64 z) (n : ℕ) (en : n ≡ sessionN
     reads : keptPlant p ≡ true → accepted (Read (pos n) (pos k)) lent (chosen (viewPlant p)) (viewPlant p) ≡ result (Read z y) lent p
     reads h = sym (named p z fz n en y fy k ek h lent ∙ step-fine (Read (pos n) (pos k)) lent (chosen (viewPlant p)) (viewPlant p) none-meets)
 
-    pub marked : (m : Mark) → viewMark m ≡ mark n k (looked p n k) → keptPlant p ≡ true → fine (markNumber (viewMark m) ∷ []) ≡ result (Read z y) lent p .answer
+    marked : (m : Mark) → viewMark m ≡ mark n k (looked p n k) → keptPlant p ≡ true → fine (markNumber (viewMark m) ∷ []) ≡ result (Read z y) lent p .answer
     unfolding accepted
     marked m e h = ap (λ (x : C.Mark). fine (markNumber x ∷ [])) (e ∙ same-mark p n k) ∙ ap (λ (x : C.Result). x .answer) (reads h)
 
-    pub filled : (c : Cached) (ws : List ℤ) → viewCached c ≡ record { key = k; fields = shownFields n k (looked p n k) } → ws ≡ shownIn (viewCached c .fields) lent → keptPlant p ≡ true → ws ≡ result (Read z y) lent p .words
-    filled c ws e w h = w ∙ words-are p h n k lent none-meets (viewCached c .fields) (ap (λ (x : M.Cached). x .fields) e ∙ same-fields p n k) ∙ ap (λ (x : C.Result). x .words) (reads h)
+    shown-filled : (c : Cached) → viewCached c ≡ record { key = k; fields = shownFields n k (looked p n k) } → keptPlant p ≡ true → shownIn (viewCached c .fields) lent ≡ result (Read z y) lent p .words
+    shown-filled c e h = words-are p h n k lent none-meets (viewCached c .fields) (ap (λ (x : M.Cached). x .fields) e ∙ same-fields p n k) ∙ ap (λ (x : C.Result). x .words) (reads h)
+
+    pub shown-all : (m : Marked) → viewMark (m .mark) ≡ mark n k (looked p n k) → viewCached (m .fields) ≡ record { key = k; fields = shownFields n k (looked p n k) } → FoundSo (fine (markNumber (viewMark (m .mark)) ∷ [])) (shownIn (viewCached (m .fields) .fields) lent)
+    shown-all m em ec = (shown-found (m .mark) em (m .fields) ec, (marked (m .mark) em, shown-filled (m .fields) ec))
+
+-- by numbers that went through a call
+pub found-by : (p : Plant) (lent : ℕ) (o : Seen) (z : ℤ) → SFits w64 z → (y : ℤ) → SFits w64 y → Found (held z) (held y) p lent o → Found z y p lent o
+found-by p lent o z fz y fy h = rw (toZ-ofZ w64 z fz, toZ-ofZ w64 y fy) at h
 
 -- ── what it shows ──
 module _ (p : Plant) (z : ℤ) (fz : SFits w64 z) (n : ℕ) (en : n ≡ sessionNumber (held z))

@@ -1,3 +1,4 @@
 -- Laws of read.
 mod Named
+pub mod Filled
 mod Laws

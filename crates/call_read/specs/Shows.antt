@@ -1,9 +1,11 @@
 -- What a read shows of any plant, as code finds it, with its mark. On a kept plant these are the fields that the session sees.
 use Prim.Native.Nat.{ℕ}
 use mathlib.Core.Path.{_≡_}
+use mathlib.Core.Bool.{true, false}
 use mathlib.Core.Option.{Option, none, some}
 use mathlib.Core.List.{List, [], _∷_}
 use lib.IntN.{ℤ, pos}
+use lib.ListN.{length}
 use Rattle.rules.specs.Limits.{keyCount}
 use Rattle.rules.specs.Values.{Field}
 use Rattle.rules.specs.Refusals.{Refusal, first}
@@ -13,12 +15,19 @@ use Rattle.rules.specs.Conditions.{conditions}
 use Rattle.rules.specs.Effects.{mark}
 use Rattle.arguments.specs.Numbers.{sessionNumber, indexNumber}
 use Rattle.cache.specs.cached.View.{viewCached}
-use Rattle.plant.specs.View.{viewPlant}
+use Rattle.cache.specs.cached.Form.{cachedForm}
+use Rattle.plant.specs.View.{viewPlant, plantForm, keptPlant}
 use Rattle.plant.specs.declared.Plant.{Plant}
-use Rattle.answers.specs.View.{viewMark, answerBy}
+use Rattle.answers.specs.View.{viewMark, viewAnswer, answerBy, isRefused}
+use Rattle.answers.specs.Own.{isAnswerOf}
+use Rattle.answers.specs.declared.Answer as A
+use Rattle.answers.specs.declared.Answer.the-variants as answer
+use Rattle.promises.specs.Promise.{result, Answers}
+use Rattle.sight.specs.Sight.{atHand}
 use Rattle.call_read_shown.specs.values.Shown.{shownIn}
 use Rattle.call_read_shown.specs.Fields.{shownFields}
 use Rattle.call_read_shown.specs.declared.Marked.{Marked}
+use Rattle.call_read.specs.declared.Seen.{Seen}
 
 abbrev pub keyAt : ℤ → ℕ
 keyAt key = indexNumber key keyCount
@@ -39,3 +48,30 @@ foundAnswer session key lent p = answerBy (first (conditions (Read (pos (session
 
 unfoldable pub foundWords : ℤ → ℤ → List ℤ → M.Plant → List ℤ
 foundWords session key lent p = wordsBy (first (conditions (Read (pos (sessionNumber session)) (pos (keyAt key))) lent p)) (shownFields (sessionNumber session) (keyAt key) p) lent
+
+-- the lent words after an answer: an answered read shows these fields in them, any other answer leaves them
+abbrev pub filledBy : A.Answer → List Field → List ℤ → List ℤ
+filledBy (answer.Refused r) fs lent = lent
+filledBy answer.Done fs lent = lent
+filledBy (answer.Begun n) fs lent = lent
+filledBy (answer.Read m) fs lent = shownIn fs lent
+filledBy (answer.Changed n) fs lent = lent
+filledBy (answer.Committed n) fs lent = lent
+filledBy (answer.Advanced t) fs lent = lent
+filledBy (answer.Taken n) fs lent = lent
+filledBy (answer.Applied r) fs lent = lent
+filledBy (answer.Deleted b) fs lent = lent
+filledBy (answer.Swept n) fs lent = lent
+filledBy (answer.Reported a b c) fs lent = lent
+
+abbrev pub filled : Seen → List ℤ → List ℤ
+filled o lent = filledBy (o .answer) (viewCached (o .shown .fields) .fields) lent
+
+-- what is found for any words of that number
+pub record Found (session key : ℤ) (p : Plant) (lent : ℕ) (o : Seen) : Type 0 where
+  pub away : p .near ≡ false → (words : List ℤ) → length words ≡ lent → (viewAnswer (o .answer) ≡ foundAnswer session key words (atHand p)) × (filled o words ≡ foundWords session key words (atHand p))
+  pub answers : (words : List ℤ) → length words ≡ lent → Answers (Read session key) words p (o .answer)
+  pub fills : (words : List ℤ) → length words ≡ lent → keptPlant p ≡ true → filled o words ≡ result (Read session key) words p .words
+  pub own : isAnswerOf (Read session key) (o .answer) ≡ true
+  pub shows : isRefused (viewAnswer (o .answer)) ≡ false → Shows session key p (o .shown)
+  pub form : plantForm p ≡ true → cachedForm (o .shown .fields) ≡ true

@@ -11,7 +11,7 @@ ghost use Rattle.answers.specs.Own.{isAnswerOf};
 ghost use Rattle.promises.specs.Promise.{result, Answers, Performs};
 ghost use Rattle.sight.specs.Sight.{atHand};
 ghost use Rattle.call_read.specs.Left.{left};
-ghost use Rattle.call_read.specs.Shows.{Shows, foundAnswer, foundWords};
+ghost use Rattle.call_read.specs.Shows.{Shows, foundAnswer, foundWords, filled, Found};
 use answers::Answer;
 use cache::Cache;
 use call_read_shown::Marked;
@@ -19,10 +19,49 @@ use keys::Keys;
 use plant::Plant;
 use sessions::Sessions;
 
-// What a read answers, and what it shows where it is not refused.
+// What a call answers, and what it shows where it is a read that is not refused.
 pub struct Seen {
     pub answer: Answer,
     pub shown: Marked,
+}
+
+impl Seen {
+    // Fills the words: of an answered read with its fields, else with nothing.
+    pub fn fill(self, words: &mut [i32])
+        ensures { λ r. ⌜ now (words .exit) ≡ filled self (now (words .entry)) ⌝ }
+    {
+        let answer = self.answer;
+        let shown = self.shown;
+        if let Answer::Read(_) = answer {
+            call_read_shown::values::write(shown.fields, words);
+        }
+    }
+}
+
+// What a read finds where so many words are lent.
+pub fn found(p: Plant, session: i64, key: i64, lent: usize) -> Seen
+    ensures { λ r. ⌜ Found session key p lent r ⌝ }
+{
+    let store = p.store;
+    let keys = p.keys;
+    let cache = p.cache;
+    let sessions = p.sessions;
+    let buffer = p.buffer;
+    let rows = p.rows;
+    let n = arguments::session(session);
+    let k = arguments::index(key, Keys::LIMIT as u8);
+    let refusal = admission::refusal(p.near, keys, cache, sessions, buffer, n, k, lent);
+    if refusal.is_refused() {
+        let shown = Marked::nothing();
+        return Seen {
+            answer: refusal,
+            shown,
+        };
+    }
+    let shown = call_read_shown::shown(p.near, store, keys, cache, sessions, buffer, rows, n, k);
+    let mark = shown.mark;
+    let answer = Answer::Read(mark);
+    Seen { answer, shown }
 }
 
 pub fn ask(p: Plant, session: i64, key: i64, words: &mut [i32]) -> Seen
@@ -34,27 +73,9 @@ pub fn ask(p: Plant, session: i64, key: i64, words: &mut [i32]) -> Seen
     ensures form { λ r. ⌜ (plantForm p ≡ true → cachedForm (r .shown .fields) ≡ true) ⌝ }
     ensures memory { λ r. ⌜ (isRefused (viewAnswer (r .answer)) ≡ true → now (words .exit) ≡ now (words .entry)) ⌝ }
 {
-    let store = p.store;
-    let keys = p.keys;
-    let cache = p.cache;
-    let sessions = p.sessions;
-    let buffer = p.buffer;
-    let rows = p.rows;
-    let n = arguments::session(session);
-    let k = arguments::index(key, Keys::LIMIT as u8);
-    let refusal = admission::refusal(p.near, keys, cache, sessions, buffer, n, k, words.len());
-    if refusal.is_refused() {
-        let shown = Marked::nothing();
-        return Seen {
-            answer: refusal,
-            shown,
-        };
-    }
-    let shown = call_read_shown::shown(p.near, store, keys, cache, sessions, buffer, rows, n, k);
-    let mark = shown.mark;
-    call_read_shown::values::write(shown.fields, words);
-    let answer = Answer::Read(mark);
-    Seen { answer, shown }
+    let seen = found(p, session, key, words.len());
+    seen.fill(words);
+    seen
 }
 
 // What a read that is not refused shows.

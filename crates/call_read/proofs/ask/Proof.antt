@@ -1,64 +1,28 @@
 -- `ask` meets its contract.
 use mathlib.Core.Path.{refl, sym, _∙_}
-use mathlib.Core.Bool.{true≢false}
-use Rattle.plant.proofs.Formed.{form-parts}
-use Rattle.answers.proofs.Own.{own-refusal}
-use Rattle.call_read.proofs.Laws.{turned-away, none-touched, turned-found, shown-found, marked, filled, shown-so}
+use Rattle.call_read.proofs.Filled.{refused-leaves}
+use Rattle.call_read.proofs.Laws.{found-by}
 use borrow.Author.Needs.{needs}
 use Rattle.call_read.proofs.ask.Statement.{statement}
 use Rattle.call_read.proofs.ask.Tie as tie
 
-session-requires : tie.Need-session-requires
-session-requires c κs = search needs
+found-requires : tie.Need-found-requires
+found-requires c κs = search needs
 
-cast-index : tie.Need-cast-index
-cast-index c = search needs
-
-index-requires : tie.Need-index-requires
-index-requires c κs = search needs
-
-refusal-requires : tie.Need-refusal-requires
-refusal-requires c κs = search needs
-
-is-refused-requires : tie.Need-is-refused-requires
-is-refused-requires c κs = search needs
-
-nothing-requires : tie.Need-nothing-requires
-nothing-requires c κs = search needs
-
-returns : tie.Need-returns
-returns c = (
-  λ h. turned-found (c .before .before .before .before .before .before .before .before .before .before .before .before .args .p) _ (search needs) _ (c .before .before .before .before .before .session .ensures) _ (search needs) _ (c .before .before .before .before .index .ensures) _ (c .before .before .before .refusal .result) (c .before .before .before .refusal .ensures) _ (c .before .before .is-refused .ensures) (c .before .if1 .taken) h,
-  (search (turned-away, needs), (search (none-touched, needs), (search (own-refusal, needs), (λ h. absurd (true≢false (sym (c .before .if1 .taken) ∙ c .before .before .is-refused .ensures ∙ h)), (λ f. c .nothing .ensures, λ h. refl))))),
-)
-
-shown-requires : tie.Need-shown-requires
-shown-requires c κs = search needs
-
-write-requires : tie.Need-write-requires
-write-requires c κs = search needs
+fill-requires : tie.Need-fill-requires
+fill-requires c κs = search needs
 
 same-length : tie.Need-same-length
 same-length c = search needs
 
-returns-2 : tie.Need-returns-2
-returns-2 c = (
-  λ h. shown-found (c .before .before .before .before .before .before .before .before .before .before .before .before .before .before .before .args .p) _ (search needs) _ (c .before .before .before .before .before .before .before .before .session .ensures) _ (search needs) _ (c .before .before .before .before .before .before .before .index .ensures) _ (c .before .before .before .before .before .before .refusal .result) (c .before .before .before .before .before .before .refusal .ensures) _ (c .before .before .before .before .before .is-refused .ensures) (c .before .before .before .before .if1 .left) (c .before .before .before .shown .result .mark) (c .before .before .before .shown .ensures .0) _ _ (c .before .before .before .shown .ensures .1 .0) (search needs) h,
-  (search (marked, needs), (search (filled, needs), (refl, (λ h. search (shown-so, needs), (λ f. let x = form-parts _ f in c .before .before .before .shown .ensures .1 .1 (x .store) (x .cache), λ h. absurd (true≢false (sym h))))))),
-)
+returns : tie.Need-returns
+returns c =
+    let o = c .before .before .before .found .result in
+    let f = found-by _ _ o (c .before .before .before .before .args .session) (search needs) (c .before .before .before .before .args .key) (search needs) (c .before .before .before .found .ensures) in
+    let w = c .before .fill .ensures in (
+      λ h. let x = f .away h _ refl in (x .0, w ∙ x .1),
+      (f .answers _ refl, (λ k. w ∙ f .fills _ refl k, (f .own, (f .shows, (f .form, λ h. w ∙ sym (refused-leaves _ _ (o .answer) h)))))),
+    )
 
 pub ask-spec : {M : Type 1} → statement M
-ask-spec =
-    tie.close
-    (tie.spec
-    session-requires
-    cast-index
-    index-requires
-    refusal-requires
-    is-refused-requires
-    nothing-requires
-    returns
-    shown-requires
-    write-requires
-    same-length
-    returns-2)
+ask-spec = tie.close (tie.spec found-requires fill-requires same-length returns)
