@@ -1,2 +1,3 @@
 -- Laws of calls as values.
 pub mod Back
+pub mod Full

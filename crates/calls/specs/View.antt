@@ -1,8 +1,13 @@
--- Calls as the rules see them.
+-- Calls as the rules see them, and lists of calls.
+use Prim.Native.Nat.{ℕ}
+use mathlib.Core.List.{List}
 use Rattle.rules.specs.Calls as C
 use Rattle.arguments.specs.places.View.{pairs}
+use Rattle.lists.specs.Table.{counted}
 use Rattle.calls.specs.declared.Call.{Call}
 use Rattle.calls.specs.declared.Call.the-variants.{Load, Map, Begin, Read, Change, Commit, Abandon, Advance, Take, Apply, Delete, Cut, Sweep, Store, Report}
+use Rattle.calls.specs.declared.Item.{Item}
+use Rattle.calls.specs.declared.Calls.{Calls}
 
 abbrev pub viewCall : Call → C.Call
 viewCall (Load d f k v) = C.Load d f k v
@@ -20,3 +25,10 @@ viewCall (Cut w) = C.Cut w
 viewCall Sweep = C.Sweep
 viewCall (Store n) = C.Store n
 viewCall (Report s) = C.Report s
+
+-- the calls of a list
+abbrev pub listLimit : ℕ
+listLimit = 64
+
+unfoldable pub viewCalls : Calls → List Call
+viewCalls t = counted (λ (i : Item). i .call) (t .count) (t .items)

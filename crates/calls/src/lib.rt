@@ -1,4 +1,12 @@
 // The fifteen calls as values, with their arguments in the paper's order; any numbers. `specs/View` says which call of the rules each is.
+// And calls one after the other, as a list.
+ghost use mathlib.Core.Path.{_≡_};
+ghost use mathlib.Core.List.{[]};
+ghost use lib.Dec.{leb};
+ghost use lib.ListN.{length};
+ghost use Rattle.rules.specs.Lists.{pushed};
+ghost use Rattle.calls.specs.View.{viewCalls, listLimit};
+
 pub enum Call {
     // document, field, change, value
     Load(i64, i64, i64, i64),
@@ -28,4 +36,49 @@ pub enum Call {
     Store(i64),
     // session
     Report(i64),
+}
+
+// A call of a list, because a field cannot be an array of enums.
+pub struct Item {
+    pub call: Call,
+}
+
+// Calls one after the other: the first `count`.
+pub struct Calls {
+    pub items: [Item; Calls::LIMIT],
+    pub count: u8,
+}
+
+impl Calls {
+    pub const LIMIT: usize = 64;
+
+    pub fn none() -> Self
+        ensures { λ r. ⌜ viewCalls r ≡ [] ⌝ }
+    {
+        let any = Item { call: Call::Begin };
+        Self {
+            items: [any; Calls::LIMIT],
+            count: 0,
+        }
+    }
+
+    pub fn is_full(self) -> bool
+        ensures { λ r. ⌜ r ≡ leb listLimit (length (viewCalls self)) ⌝ }
+    {
+        Calls::LIMIT <= self.count as usize
+    }
+
+    // One more, if there is room.
+    pub fn push(self, c: Call) -> Self
+        ensures { λ r. ⌜ viewCalls r ≡ pushed listLimit (viewCalls self) c ⌝ }
+    {
+        let at = self.count as usize;
+        if Calls::LIMIT <= at {
+            return self;
+        }
+        let mut calls = self;
+        calls.items[at] = Item { call: c };
+        calls.count = self.count + 1;
+        calls
+    }
 }
