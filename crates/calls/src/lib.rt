@@ -62,6 +62,17 @@ impl Calls {
         }
     }
 
+    // How many there are.
+    pub fn len(self) -> usize
+        ensures { λ r. ⌜ r ≡ length (viewCalls self) ⌝ }
+    {
+        let n = self.count as usize;
+        if Calls::LIMIT <= n {
+            return Calls::LIMIT;
+        }
+        n
+    }
+
     pub fn is_full(self) -> bool
         ensures { λ r. ⌜ r ≡ leb listLimit (length (viewCalls self)) ⌝ }
     {
