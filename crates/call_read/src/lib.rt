@@ -26,6 +26,15 @@ pub struct Seen {
 }
 
 impl Seen {
+    // An answer that shows nothing.
+    pub fn of(answer: Answer) -> Self
+        ensures told { λ r. ⌜ r .answer ≡ answer ⌝ }
+        ensures form { λ r. ⌜ cachedForm (r .shown .fields) ≡ true ⌝ }
+    {
+        let shown = Marked::nothing();
+        Self { answer, shown }
+    }
+
     // Fills the words: of an answered read with its fields, else with nothing.
     pub fn fill(self, words: &mut [i32])
         ensures { λ r. ⌜ now (words .exit) ≡ filled self (now (words .entry)) ⌝ }

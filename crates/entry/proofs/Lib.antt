@@ -1,4 +1,6 @@
 -- The entry's promise from its two parts, and the three demands of the code.
 mod Laws
+mod Asked
+pub mod RunAll
 pub mod Demand3
 pub mod Demands
