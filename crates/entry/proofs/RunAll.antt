@@ -1,8 +1,9 @@
 -- Calls run one after the other: what the loop keeps, and one call more at the end.
-use Prim.Native.Nat.{ℕ, suc, _+_, _≤_, _<_, min}
+use Prim.Native.Nat.{ℕ, zero, suc, _+_, _≤_, _<_, min}
 use native.Mathlib.Omega.{arith}
 use native.Mathlib.Numerals.{add-one}
 use mathlib.Core.Path.{_≡_, refl, sym, _∙_, ap, subst}
+use mathlib.Core.Bool.{true}
 use mathlib.Core.List.{List, [], _∷_, _++_, map}
 use lib.Dec.{leb}
 use lib.IntN.{ℤ}
@@ -11,12 +12,18 @@ use lib.Seq.{take-suc, take-suc-set, take-all}
 use borrow.Author.Tests.{leb-true, leb-false}
 use Rattle.rules.proofs.Laws.{byCase}
 use Rattle.lists.proofs.Views.{counted-length, counted-at}
+use Rattle.plant.specs.View.{plantForm, keptPlant}
 use Rattle.plant.specs.declared.Plant.{Plant}
-use Rattle.calls.specs.View.{viewCalls, listLimit}
+use Rattle.answers.specs.View.{viewAnswer, isRefused}
+use Rattle.answers.specs.Own.{isAnswerOf}
+use Rattle.calls.specs.View.{viewCall, viewCalls, listLimit}
 use Rattle.calls.specs.declared.Item.{Item}
 use Rattle.calls.specs.declared.Calls.{Calls}
 use Rattle.calls.specs.declared.Call.{Call}
+use Rattle.call_read.specs.Shows.{filled}
 use Rattle.call_read.specs.declared.Seen.{Seen}
+use Rattle.entry_after.specs.Refused.{RefusalLeaves}
+use Rattle.entry.specs.Ran.{Ran}
 use Rattle.entry.specs.RanAll.{Entered, RanAll}
 
 module _ (n : ℕ) where
@@ -26,6 +33,24 @@ module _ (n : ℕ) where
   ran-snoc p [] (o′ ∷ os) m e c o q h = absurd e
   ran-snoc p (c′ ∷ cs) [] m e c o q h = absurd e
   ran-snoc p (c′ ∷ cs) (o′ ∷ os) m r c o q h = (r .0, (r .1 .0, ran-snoc (r .0) cs os m (r .1 .1) c o q h))
+
+  ran-none : (p : Plant) (os : List Seen) (q : Plant) → RanAll n p [] os q → q ≡ p
+  ran-none p [] q e = e
+  ran-none p (o ∷ os) q e = absurd e
+
+  -- a list of one call
+  pub ran-one : (p : Plant) (cs : List Call) (c : Call) → cs ≡ c ∷ [] → (count : ℕ) (seen : List Seen) (q : Plant) → RanAll n p cs (take count seen) q → (d : Seen) (lent : List ℤ) → length lent ≡ n → Entered c lent p (getD seen 0 d) q
+  ran-one p cs c e count seen q r d = go count seen (rw e at r)
+    where
+      go : (count : ℕ) (seen : List Seen) → RanAll n p (c ∷ []) (take count seen) q → (lent : List ℤ) → length lent ≡ n → Entered c lent p (getD seen 0 d) q
+      go zero seen r = absurd r
+      go (suc k) [] r = absurd r
+      go (suc k) (o ∷ os) r = rw (ran-none (r .0) (take k os) q (r .1 .1)) (r .1 .0)
+
+-- what is promised of one call, with these words filled
+pub promised : (c : Call) (lent : List ℤ) (p : Plant) (o : Seen) (q : Plant) → Entered c lent p o q → (ws : List ℤ) → ws ≡ filled o lent
+    → (keptPlant p ≡ true → Ran c lent p (o .answer) ws q) × ((isAnswerOf (viewCall c) (o .answer) ≡ true) × ((plantForm p ≡ true → plantForm q ≡ true) × (RefusalLeaves p (o .answer) q × (isRefused (viewAnswer (o .answer)) ≡ true → ws ≡ lent))))
+promised c lent p o q x ws e = (λ k. rw e (x .runs k), (x .own, (x .form, (x .refused, λ h. e ∙ x .memory h))))
 
 -- the first i calls are run
 pub record Running (n : ℕ) (p : Plant) (cs : List Call) (seen : List Seen) (i : ℕ) (q : Plant) : Type 0 where

@@ -57,7 +57,11 @@ pub fn run(p: Plant, c: Call, words: &mut [i32]) -> Outcome
     ensures refused { λ r. ⌜ RefusalLeaves p (r .answer) (r .plant) ⌝ }
     ensures memory { λ r. ⌜ (isRefused (viewAnswer (r .answer)) ≡ true → now (words .exit) ≡ now (words .entry)) ⌝ }
 {
-    let answer = entry_answer::answer(p, c, words);
-    let plant = entry_after::after(p, c, answer);
+    let none = Calls::none();
+    let all = run_all(p, none.push(c), words.len());
+    let o = all.seen[0];
+    o.fill(words);
+    let answer = o.answer;
+    let plant = all.plant;
     Outcome { answer, plant }
 }

@@ -1,25 +1,44 @@
 -- `run` meets its contract.
-use Rattle.entry.proofs.Laws.{ran}
+use mathlib.Core.Path.{_≡_, refl, _∙_}
+use mathlib.Core.List.{List, [], _∷_}
+use denote.Ref.{now}
+use Rattle.rules.specs.Lists.{pushed}
+use Rattle.calls.specs.View.{listLimit}
+use Rattle.calls.specs.declared.Call.{Call}
+use Rattle.entry.proofs.RunAll.{ran-one, promised}
 use borrow.Author.Needs.{needs}
 use Rattle.entry.proofs.run.Statement.{statement}
 use Rattle.entry.proofs.run.Tie as tie
 
-answer-requires : tie.Need-answer-requires
-answer-requires c κs = search needs
+none-requires : tie.Need-none-requires
+none-requires c κs = search needs
 
-after-requires : tie.Need-after-requires
-after-requires c κs = search needs
+push-requires : tie.Need-push-requires
+push-requires c κs = search needs
+
+run-all-requires : tie.Need-run-all-requires
+run-all-requires c κs = search needs
+
+element-copy-out-o : tie.Need-element-copy-out-o
+element-copy-out-o c = search needs
+
+fill-requires : tie.Need-fill-requires
+fill-requires c κs = search needs
 
 same-length : tie.Need-same-length
 same-length c = search needs
 
+first : (l : List Call) (c : Call) → l ≡ [] → pushed listLimit l c ≡ c ∷ []
+unfolding pushed
+first l c e = rw e refl
+
 returns : tie.Need-returns
 returns c =
-    let a = c .before .before .answer .ensures in
-    let q = c .after .ensures in (
-      ran _ _ _ _ _ (c .before .before .answer .result) (a .0) (a .1 .0) (q .1 .0) (q .1 .1 .1),
-      (a .1 .1 .0, (q .1 .1 .0, (q .0, a .1 .1 .1))),
-    )
+    let all = c .before .before .before .before .before in
+    let given = all .before .before .before .args in
+    let one = all .before .push .ensures ∙ first _ (given .c) (all .before .before .none .ensures) in
+    promised _ _ (given .p) _ _ (ran-one _ (given .p) _ _ one (all .before .push .result .count) (all .run-all .result .seen) (all .run-all .result .plant) (all .run-all .ensures) _ (now (given .words)) refl) _
+    (c .before .before .fill .ensures)
 
 pub run-spec : {M : Type 1} → statement M
-run-spec = tie.close (tie.spec answer-requires after-requires same-length returns)
+run-spec = tie.close (tie.spec none-requires push-requires run-all-requires element-copy-out-o fill-requires same-length returns)
