@@ -21,7 +21,8 @@ pub struct Outcomes {
     pub seen: [Seen; Calls::LIMIT],
 }
 
-// Runs calls one after the other, with so many words lent to each.
+// Runs calls one after the other, with so many words lent to each. The plant lies here: calls are asked where it lies and their tables are
+// written in place, because a plant that goes through a function is copied. What a read shows is kept for the cache, and not worked out again.
 pub fn run_all(mut p: Plant, calls: Calls, lent: usize) -> Outcomes
     ensures { λ r. ⌜ RanAll lent p (viewCalls calls) (take (calls .count) (r .seen)) (r .plant) ⌝ }
 {
@@ -40,7 +41,106 @@ pub fn run_all(mut p: Plant, calls: Calls, lent: usize) -> Outcomes
         seen[i] = o;
         i += 1;
         let a = o.answer;
-        p = entry_after::after(p, c, a);
+        if a.ends_session() {
+            let sessions = entry_after::ended(p, c);
+            p.sessions = sessions;
+            continue;
+        }
+        if a.is_refused() {
+            continue;
+        }
+        match c {
+            Call::Load(d, f, k, v) => {
+                let store = call_load::after(p, d, f, k, v);
+                p.store = store;
+            }
+            Call::Map(k, n, d1, f1, d2, f2, d3, f3, d4, f4) => {
+                let keys = call_map::after(p, k, n, d1, f1, d2, f2, d3, f3, d4, f4);
+                p.keys = keys;
+            }
+            Call::Begin => {
+                let t = call_begin::after(p);
+                let sessions = t.sessions;
+                p.sessions = sessions;
+                p.next = t.next;
+            }
+            Call::Read(s, k) => {
+                let shown = o.shown;
+                let t = call_read::after(p, s, k, shown);
+                let cache = t.cache;
+                let sessions = t.sessions;
+                p.cache = cache;
+                p.sessions = sessions;
+            }
+            Call::Change(s, d, f, k, v) => {
+                let sessions = call_change::after(p, s, d, f, k, v);
+                p.sessions = sessions;
+            }
+            Call::Commit(s) => {
+                let t = call_commit::after(p, s);
+                let buffer = t.buffer;
+                let cache = t.cache;
+                let sessions = t.sessions;
+                p.buffer = buffer;
+                p.cache = cache;
+                p.sessions = sessions;
+            }
+            Call::Abandon(s) => {
+                let sessions = call_abandon::after(p, s);
+                p.sessions = sessions;
+            }
+            Call::Advance(n) => {
+                let t = call_advance::after(p, n);
+                let cache = t.cache;
+                let sessions = t.sessions;
+                let queue = t.queue;
+                p.cache = cache;
+                p.sessions = sessions;
+                p.queue = queue;
+                p.clock = t.clock;
+            }
+            Call::Take(w) => {
+                let t = call_take::after(p, w);
+                let hands = t.hands;
+                let queue = t.queue;
+                p.hands = hands;
+                p.queue = queue;
+            }
+            Call::Apply(w, f) => {
+                let t = call_apply::after(p, w, f);
+                let store = t.store;
+                let rows = t.rows;
+                let hands = t.hands;
+                p.store = store;
+                p.rows = rows;
+                p.hands = hands;
+            }
+            Call::Delete(w) => {
+                let t = call_delete::after(p, w);
+                let buffer = t.buffer;
+                let hands = t.hands;
+                let queue = t.queue;
+                p.buffer = buffer;
+                p.hands = hands;
+                p.queue = queue;
+            }
+            Call::Cut(w) => {
+                let t = call_cut::after(p, w);
+                let hands = t.hands;
+                let queue = t.queue;
+                p.hands = hands;
+                p.queue = queue;
+            }
+            Call::Sweep => {
+                let rows = call_sweep::after(p);
+                p.rows = rows;
+            }
+            Call::Store(n) => {
+                let near = call_store::after(p, n);
+                p.near = near;
+            }
+            Call::Report(_) => {}
+        }
     }
     Outcomes { plant: p, seen }
 }

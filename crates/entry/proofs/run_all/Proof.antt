@@ -1,19 +1,26 @@
--- `run_all` meets its contract.
-use Prim.Native.Nat.{_-_, _<_}
+-- `run_all` meets its contract. What holds of a call is said once, at the places that each way through the loop's body passes: where it is
+-- answered (`Answered`), and where it is no refusal (`Accepted`). Each way back to the loop's head adds what the call leaves.
+use Prim.Native.Nat.{_-_, _<_, _+_}
 use native.Mathlib.Omega.{arith}
 use mathlib.Core.Path.{_≡_, refl, sym, _∙_}
+use mathlib.Core.Bool.{true}
 use mathlib.Core.Logic.{⊎-elim}
 use lib.IntN.{pos}
-use lib.ListN.{length, getD}
+use lib.ListN.{length, getD, set}
 use Rattle.lists.proofs.Loops.{length-mapped}
-use Rattle.calls.specs.View.{viewCalls, listLimit}
+use Rattle.plant.specs.View.{plantForm}
+use Rattle.plant.specs.declared.Plant.{Plant}
+use Rattle.promises.specs.Promise.{Performs}
+use Rattle.call_report.proofs.Laws.{performs}
+use Rattle.calls.specs.View.{viewCall, viewCalls, listLimit}
 use Rattle.calls.specs.declared.Call.{Call}
-use Rattle.calls.specs.declared.Call.the-variants.{Load, Read, Change}
+use Rattle.calls.specs.declared.Call.the-variants.{Load, Map, Read, Change, Commit, Abandon, Advance, Take, Apply, Delete, Cut, Store}
 use Rattle.calls.specs.declared.Item.{Item}
-use Rattle.calls.proofs.Back.{back2, back5}
+use Rattle.calls.proofs.Back.{back1, back2, back4, back5, back10}
 use Rattle.entry_answer.proofs.Laws.{not-seeing}
 use Rattle.entry.proofs.RunAll.{Running, running-start, running-next, running-end, within, few-calls, call-at, all-taken}
-use Rattle.entry.proofs.Asked.{Asked, asked-read, asked-other, asked-plain, entered}
+use Rattle.entry.proofs.Asked.{Asked, asked-read, asked-other, asked-plain, Done, entered}
+use Rattle.entry.proofs.Done.{done-ended, done-nothing, done-by}
 use borrow.Author.Needs.{needs}
 use Rattle.entry.proofs.run_all.Statement.{statement}
 use Rattle.entry.proofs.run_all.Tie as tie
@@ -95,18 +102,237 @@ array-set-from-seen c = within _ _ _ _ _ _ (c .before .before .before .loop .inv
 add-i : tie.Need-add-i Inv-loop μ-loop
 add-i c = search needs
 
-after-requires : tie.Need-after-requires Inv-loop μ-loop
-after-requires c κs = search needs
+-- one call more is run, with the plant that it leaves
+again : (c : Answered) (q : Plant) → Done (c .match .c) (c .before .before .before .loop .p) (c .match .o .answer) q → Running (c .before .before .before .before .before .before .args .lent) (c .before .before .before .before .before .before .args .p) (viewCalls (c .before .before .before .before .before .before .args .t2)) (set (c .before .before .before .loop .seen) (c .before .before .before .loop .i) (c .match .o)) (c .before .before .before .loop .i + 1) q
+again c q d =
+    let h = inside (c .before .before) in
+    running-next _ _ _ _ _ _ (c .before .before .before .loop .inv) h (c .match .c) (any .call) (said c ∙ call-at (c .before .before .before .before .before .before .args .t2) (all-items (c .before .before .before .before)) any _ h) (c .match .o) q (entered _ _ _ _ (question c) q d)
+
+less : (c : Answered) → c .before .before .before .before .len .result - (c .before .before .before .loop .i + 1) < c .before .before .before .before .len .result - c .before .before .before .loop .i
+less c = omega (arith, c .before .before .loop-test .taken)
+
+ends-session-requires : tie.Need-ends-session-requires Inv-loop μ-loop
+ends-session-requires c κs = search needs
+
+ended-requires : tie.Need-ended-requires Inv-loop μ-loop
+ended-requires c κs = search needs
 
 loop-less : tie.Need-loop-less Inv-loop μ-loop
-loop-less c = search needs
+loop-less c = less (c .before .before .before)
 
 loop-again : tie.Need-loop-again Inv-loop μ-loop
 loop-again c =
-    let t = c .before .before .before .before .before .before .before .args .t2 in
-    let h = inside (c .before .before .before) in
-    running-next _ _ _ _ _ _ (c .before .before .before .before .loop .inv) h (c .before .match .c) (any .call) (said (c .before) ∙ call-at t (all-items (c .before .before .before .before .before)) any _ h) (c .before .match .o) _
-    (entered _ _ _ _ (question (c .before)) _ (c .after .ensures))
+    let q = c .before .before .before in
+    again q _ (done-ended (q .match .c) (q .before .before .before .loop .p) (q .match .o .answer) _ (c .before .before .ends-session .ensures) (c .before .if1 .taken) _ (c .ended .ensures))
+
+is-refused-requires : tie.Need-is-refused-requires Inv-loop μ-loop
+is-refused-requires c κs = search needs
+
+loop-less-2 : tie.Need-loop-less-2 Inv-loop μ-loop
+loop-less-2 c = less (c .before .before .before .before)
+
+loop-again-2 : tie.Need-loop-again-2 Inv-loop μ-loop
+loop-again-2 c =
+    let q = c .before .before .before .before in
+    again q _ (done-nothing (q .match .c) (q .before .before .before .loop .p) (q .match .o .answer) _ (c .before .before .before .ends-session .ensures) (c .before .before .if1 .left) _ (c .before .is-refused .ensures) (c .if2 .taken))
+
+-- ── where it is no refusal ──
+abbrev Accepted : Type 0
+Accepted = tie.Else2 Inv-loop μ-loop
+
+abbrev answered : Accepted → Answered
+answered c = c .before .before .before .before
+
+abbrev plant : Accepted → Plant
+plant c = answered c .before .before .before .loop .p
+
+-- by the tables that the call writes
+done : (c : Accepted) (y : Call) → answered c .match .c ≡ y → (q : Plant) → Performs (viewCall y) (plant c) q × (plantForm (plant c) ≡ true → plantForm q ≡ true) → Running (answered c .before .before .before .before .before .before .args .lent) (answered c .before .before .before .before .before .before .args .p) (viewCalls (answered c .before .before .before .before .before .before .args .t2)) (set (answered c .before .before .before .loop .seen) (answered c .before .before .before .loop .i) (answered c .match .o)) (answered c .before .before .before .loop .i + 1) q
+done c y e q f =
+    again (answered c) q (done-by (answered c .match .c) (plant c) (answered c .match .o .answer) _ (c .before .before .before .ends-session .ensures) (c .before .before .if1 .left) _ (c .before .is-refused .ensures) (c .if2 .left) y e q f)
+
+enum-known-c-3 : tie.Need-enum-known-c-3 Inv-loop μ-loop
+enum-known-c-3 c = search needs
+
+after-requires : tie.Need-after-requires Inv-loop μ-loop
+after-requires c κs = search needs
+
+loop-less-3 : tie.Need-loop-less-3 Inv-loop μ-loop
+loop-less-3 c = less (answered (c .before .before .before .before))
+
+loop-again-3 : tie.Need-loop-again-3 Inv-loop μ-loop
+loop-again-3 c = done (c .before .before .before .before) _ (back4 Load _ _ _ _ (c .before .before .c3 .given .1) (search needs) (search needs) (search needs) (search needs)) _ (c .after .ensures)
+
+enum-known-c-4 : tie.Need-enum-known-c-4 Inv-loop μ-loop
+enum-known-c-4 c = search needs
+
+after-requires-2 : tie.Need-after-requires-2 Inv-loop μ-loop
+after-requires-2 c κs = search needs
+
+loop-less-4 : tie.Need-loop-less-4 Inv-loop μ-loop
+loop-less-4 c = less (answered (c .before .before .before .before))
+
+loop-again-4 : tie.Need-loop-again-4 Inv-loop μ-loop
+loop-again-4 c =
+    let f = c .before .known-told4 .given in
+    done (c .before .before .before .before) _ (back10 Map _ _ _ _ _ _ _ _ _ _ (c .before .before .c4 .given .1) (search (f .0, needs)) (search (f .1 .0, needs)) (search (f .1 .1 .0, needs)) (search (f .1 .1 .1 .0, needs)) (search (f .1 .1 .1 .1 .0, needs)) (search (f .1 .1 .1 .1 .1 .0, needs)) (search (f .1 .1 .1 .1 .1 .1 .0, needs)) (search (f .1 .1 .1 .1 .1 .1 .1 .0, needs)) (search (f .1 .1 .1 .1 .1 .1 .1 .1 .0, needs)) (search (f .1 .1 .1 .1 .1 .1 .1 .1 .1 .0, needs))) _ (c .after2 .ensures)
+
+enum-told : tie.Need-enum-told Inv-loop μ-loop
+enum-told c = search needs
+
+after-requires-3 : tie.Need-after-requires-3 Inv-loop μ-loop
+after-requires-3 c κs = search needs
+
+loop-less-5 : tie.Need-loop-less-5 Inv-loop μ-loop
+loop-less-5 c = less (answered (c .before .before .before .before))
+
+loop-again-5 : tie.Need-loop-again-5 Inv-loop μ-loop
+loop-again-5 c = done (c .before .before .before .before) _ (c .before .before .enum-told .given .1) _ (c .before .after3 .ensures)
+
+enum-known-c-5 : tie.Need-enum-known-c-5 Inv-loop μ-loop
+enum-known-c-5 c = search needs
+
+after-requires-4 : tie.Need-after-requires-4 Inv-loop μ-loop
+after-requires-4 c κs = search needs
+
+loop-less-6 : tie.Need-loop-less-6 Inv-loop μ-loop
+loop-less-6 c = less (answered (c .before .before .before .before .before .before .before))
+
+loop-again-6 : tie.Need-loop-again-6 Inv-loop μ-loop
+loop-again-6 c =
+    let x = c .before .before .before .before .before .before .before in
+    let e = back2 Read _ _ (c .before .before .before .before .before .c5 .given .1) (search needs) (search needs) in
+    let f = question (answered x) in
+    done x _ e _ (c .before .before .after4 .ensures .0 (f .shows _ _ e (sym (x .before .is-refused .ensures) ∙ x .if2 .left)), λ g. c .before .before .after4 .ensures .1 (f .form g) g)
+
+enum-known-c-6 : tie.Need-enum-known-c-6 Inv-loop μ-loop
+enum-known-c-6 c = search needs
+
+after-requires-5 : tie.Need-after-requires-5 Inv-loop μ-loop
+after-requires-5 c κs = search needs
+
+loop-less-7 : tie.Need-loop-less-7 Inv-loop μ-loop
+loop-less-7 c = less (answered (c .before .before .before .before))
+
+loop-again-7 : tie.Need-loop-again-7 Inv-loop μ-loop
+loop-again-7 c = done (c .before .before .before .before) _ (back5 Change _ _ _ _ _ (c .before .before .c6 .given .1) (search needs) (search needs) (search needs) (search needs) (search needs)) _ (c .after5 .ensures)
+
+enum-known-c-7 : tie.Need-enum-known-c-7 Inv-loop μ-loop
+enum-known-c-7 c = search needs
+
+after-requires-6 : tie.Need-after-requires-6 Inv-loop μ-loop
+after-requires-6 c κs = search needs
+
+loop-less-8 : tie.Need-loop-less-8 Inv-loop μ-loop
+loop-less-8 c = less (answered (c .before .before .before .before .before .before .before))
+
+loop-again-8 : tie.Need-loop-again-8 Inv-loop μ-loop
+loop-again-8 c = done (c .before .before .before .before .before .before .before) _ (back1 Commit _ (c .before .before .before .before .before .c7 .given .1) (search needs)) _ (c .before .before .before .after6 .ensures)
+
+enum-known-c-8 : tie.Need-enum-known-c-8 Inv-loop μ-loop
+enum-known-c-8 c = search needs
+
+after-requires-7 : tie.Need-after-requires-7 Inv-loop μ-loop
+after-requires-7 c κs = search needs
+
+loop-less-9 : tie.Need-loop-less-9 Inv-loop μ-loop
+loop-less-9 c = less (answered (c .before .before .before .before))
+
+loop-again-9 : tie.Need-loop-again-9 Inv-loop μ-loop
+loop-again-9 c = done (c .before .before .before .before) _ (back1 Abandon _ (c .before .before .c8 .given .1) (search needs)) _ (c .after7 .ensures)
+
+enum-known-c-9 : tie.Need-enum-known-c-9 Inv-loop μ-loop
+enum-known-c-9 c = search needs
+
+after-requires-8 : tie.Need-after-requires-8 Inv-loop μ-loop
+after-requires-8 c κs = search needs
+
+loop-less-10 : tie.Need-loop-less-10 Inv-loop μ-loop
+loop-less-10 c = less (answered (c .before .before .before .before .before .before .before))
+
+loop-again-10 : tie.Need-loop-again-10 Inv-loop μ-loop
+loop-again-10 c = done (c .before .before .before .before .before .before .before) _ (back1 Advance _ (c .before .before .before .before .before .c9 .given .1) (search needs)) _ (c .before .before .before .after8 .ensures)
+
+enum-known-c-10 : tie.Need-enum-known-c-10 Inv-loop μ-loop
+enum-known-c-10 c = search needs
+
+after-requires-9 : tie.Need-after-requires-9 Inv-loop μ-loop
+after-requires-9 c κs = search needs
+
+loop-less-11 : tie.Need-loop-less-11 Inv-loop μ-loop
+loop-less-11 c = less (answered (c .before .before .before .before .before .before))
+
+loop-again-11 : tie.Need-loop-again-11 Inv-loop μ-loop
+loop-again-11 c = done (c .before .before .before .before .before .before) _ (back1 Take _ (c .before .before .before .before .c10 .given .1) (search needs)) _ (c .before .before .after9 .ensures)
+
+enum-known-c-11 : tie.Need-enum-known-c-11 Inv-loop μ-loop
+enum-known-c-11 c = search needs
+
+after-requires-10 : tie.Need-after-requires-10 Inv-loop μ-loop
+after-requires-10 c κs = search needs
+
+loop-less-12 : tie.Need-loop-less-12 Inv-loop μ-loop
+loop-less-12 c = less (answered (c .before .before .before .before .before .before .before))
+
+loop-again-12 : tie.Need-loop-again-12 Inv-loop μ-loop
+loop-again-12 c = done (c .before .before .before .before .before .before .before) _ (back2 Apply _ _ (c .before .before .before .before .before .c11 .given .1) (search needs) (search needs)) _ (c .before .before .before .after10 .ensures)
+
+enum-known-c-12 : tie.Need-enum-known-c-12 Inv-loop μ-loop
+enum-known-c-12 c = search needs
+
+after-requires-11 : tie.Need-after-requires-11 Inv-loop μ-loop
+after-requires-11 c κs = search needs
+
+loop-less-13 : tie.Need-loop-less-13 Inv-loop μ-loop
+loop-less-13 c = less (answered (c .before .before .before .before .before .before .before))
+
+loop-again-13 : tie.Need-loop-again-13 Inv-loop μ-loop
+loop-again-13 c = done (c .before .before .before .before .before .before .before) _ (back1 Delete _ (c .before .before .before .before .before .c12 .given .1) (search needs)) _ (c .before .before .before .after11 .ensures)
+
+enum-known-c-13 : tie.Need-enum-known-c-13 Inv-loop μ-loop
+enum-known-c-13 c = search needs
+
+after-requires-12 : tie.Need-after-requires-12 Inv-loop μ-loop
+after-requires-12 c κs = search needs
+
+loop-less-14 : tie.Need-loop-less-14 Inv-loop μ-loop
+loop-less-14 c = less (answered (c .before .before .before .before .before .before))
+
+loop-again-14 : tie.Need-loop-again-14 Inv-loop μ-loop
+loop-again-14 c = done (c .before .before .before .before .before .before) _ (back1 Cut _ (c .before .before .before .before .c13 .given .1) (search needs)) _ (c .before .before .after12 .ensures)
+
+enum-told-2 : tie.Need-enum-told-2 Inv-loop μ-loop
+enum-told-2 c = search needs
+
+after-requires-13 : tie.Need-after-requires-13 Inv-loop μ-loop
+after-requires-13 c κs = search needs
+
+loop-less-15 : tie.Need-loop-less-15 Inv-loop μ-loop
+loop-less-15 c = less (answered (c .before .before .before))
+
+loop-again-15 : tie.Need-loop-again-15 Inv-loop μ-loop
+loop-again-15 c = done (c .before .before .before) _ (c .before .enum-told2 .given .1) _ (c .after13 .ensures)
+
+enum-known-c-14 : tie.Need-enum-known-c-14 Inv-loop μ-loop
+enum-known-c-14 c = search needs
+
+after-requires-14 : tie.Need-after-requires-14 Inv-loop μ-loop
+after-requires-14 c κs = search needs
+
+loop-less-16 : tie.Need-loop-less-16 Inv-loop μ-loop
+loop-less-16 c = less (answered (c .before .before .before .before))
+
+loop-again-16 : tie.Need-loop-again-16 Inv-loop μ-loop
+loop-again-16 c = done (c .before .before .before .before) _ (back1 Store _ (c .before .before .c14 .given .1) (search needs)) _ (c .after14 .ensures)
+
+enum-told-3 : tie.Need-enum-told-3 Inv-loop μ-loop
+enum-told-3 c = search needs
+
+loop-less-17 : tie.Need-loop-less-17 Inv-loop μ-loop
+loop-less-17 c = less (answered (c .before .before))
+
+loop-again-17 : tie.Need-loop-again-17 Inv-loop μ-loop
+loop-again-17 c = done (c .before .before) _ (c .enum-told3 .given .1) _ (performs _ _, λ f. f)
 
 returns : tie.Need-returns Inv-loop μ-loop
 returns c =
@@ -135,7 +361,70 @@ run-all-spec =
     mul-seen
     array-set-from-seen
     add-i
-    after-requires
+    ends-session-requires
+    ended-requires
     loop-less
     loop-again
+    is-refused-requires
+    loop-less-2
+    loop-again-2
+    enum-known-c-3
+    after-requires
+    loop-less-3
+    loop-again-3
+    enum-known-c-4
+    after-requires-2
+    loop-less-4
+    loop-again-4
+    enum-told
+    after-requires-3
+    loop-less-5
+    loop-again-5
+    enum-known-c-5
+    after-requires-4
+    loop-less-6
+    loop-again-6
+    enum-known-c-6
+    after-requires-5
+    loop-less-7
+    loop-again-7
+    enum-known-c-7
+    after-requires-6
+    loop-less-8
+    loop-again-8
+    enum-known-c-8
+    after-requires-7
+    loop-less-9
+    loop-again-9
+    enum-known-c-9
+    after-requires-8
+    loop-less-10
+    loop-again-10
+    enum-known-c-10
+    after-requires-9
+    loop-less-11
+    loop-again-11
+    enum-known-c-11
+    after-requires-10
+    loop-less-12
+    loop-again-12
+    enum-known-c-12
+    after-requires-11
+    loop-less-13
+    loop-again-13
+    enum-known-c-13
+    after-requires-12
+    loop-less-14
+    loop-again-14
+    enum-told-2
+    after-requires-13
+    loop-less-15
+    loop-again-15
+    enum-known-c-14
+    after-requires-14
+    loop-less-16
+    loop-again-16
+    enum-told-3
+    loop-less-17
+    loop-again-17
     returns)
