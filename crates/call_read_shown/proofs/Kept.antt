@@ -4,12 +4,13 @@ use mathlib.Core.Bool.{true, false, not, cond, true≢false}
 use mathlib.Core.List.{List, [], _∷_, map}
 use Prim.Native.Nat.{ℕ, _<_}
 use lib.Dec.{eqb}
+use lib.ListN.{length, length-map}
 use Rattle.rules.specs.Limits.{keyCount}
 use Rattle.rules.specs.Lists.{any, all}
 use Rattle.rules.specs.Values.{Place, inRange}
 use Rattle.rules.specs.Changes.{Update}
 use Rattle.rules.specs.Tables as M
-use Rattle.rules.specs.Reading.{seen, known}
+use Rattle.rules.specs.Reading.{current, seen, known}
 use Rattle.rules.specs.Calls.{Pick}
 use Rattle.rules.specs.Effects.{touched, mark, cacheBy, cacheAfter}
 use Rattle.rules.proofs.Laws.{byCase}
@@ -33,6 +34,17 @@ module _ (p : M.Plant) (h : Kept p) where
       (λ t. ap₂ _∷_ (value-is p own q h (all-head inRange q qs r) t)
       (worked-all own qs (all-tail inRange q qs r) (ap (λ b. cond (not b) true (any (λ x. not (known p own x)) qs)) (sym t) ∙ e)))
       (λ t. absurd (true≢false (ap (λ b. cond (not b) true (any (λ x. not (known p own x)) qs)) (sym t) ∙ e)))
+
+  -- as many as the key has places
+  pub shown-count : (n k : ℕ) → length (shownFields n k p) ≡ length (p .keys k)
+  unfolding shownFields
+  shown-count n k =
+      let worked = length-map (p .keys k) (value p (ownOf n p)) in
+      byCase (touched (ownOf n p) (p .keys k))
+      (λ t. rw t worked)
+      (λ t. byCase (M.isCached k (p .cache))
+      (λ b. rw (t, b) (ap length (at-fields k (p .cache) ∙ cached-fields p k h b) ∙ length-map (p .keys k) (current p)))
+      (λ b. rw (t, b) worked))
 
   module _ (n k : ℕ) (lt : k < keyCount) (e : any (λ q. not (known p (ownOf n p) q)) (p .keys k) ≡ false) where
     worked-is : workedFields n k p ≡ map (seen p (ownOf n p)) (p .keys k)

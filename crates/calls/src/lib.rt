@@ -53,7 +53,8 @@ impl Calls {
     pub const LIMIT: usize = 64;
 
     pub fn none() -> Self
-        ensures { λ r. ⌜ viewCalls r ≡ [] ⌝ }
+        ensures shows { λ r. ⌜ viewCalls r ≡ [] ⌝ }
+        ensures entries { λ r. ⌜ (length (r .items) ≡ listLimit) × (r .count ≡ 0) ⌝ }
     {
         let any = Item { call: Call::Begin };
         Self {

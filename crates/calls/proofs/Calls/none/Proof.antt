@@ -7,7 +7,7 @@ use Rattle.calls.proofs.Calls.none.Tie as tie
 
 returns : tie.Need-returns
 unfolding viewCalls counted
-returns c = refl
+returns c = (refl, (refl, refl))
 
 pub none-spec : {M : Type 1} → statement M
 none-spec = tie.close (tie.spec returns)
