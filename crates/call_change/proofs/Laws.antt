@@ -178,8 +178,8 @@ module _ (p : Plant) (z d f k v : ℤ) (fd : SFits w64 d) (ff : SFits w64 f) (fk
     unfolding laterAnswer sight sightAway viewSession _⇒_
     found-later g r er a =
         let o = is-open (p .sessions) n s es w ew t et g in
-        let c : changes n ≡ viewChanges (s .changes) = ap (λ (x : M.Session). x .changes) (sym es) in
-        at-number r (er ∙ rw (good h, o .0, o .1, c, a, update-is (good h)) refl)
+        let mine : changes n ≡ viewChanges (s .changes) = ap (λ (x : M.Session). x .changes) (sym es) in
+        at-number r (er ∙ rw (good h, o .0, o .1, mine, a, update-is (good h)) refl)
 
   module _ (lent : List ℤ) (kept : keptPlant p ≡ true) where
     abbrev Answered : A.Answer → Type 0
