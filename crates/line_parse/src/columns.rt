@@ -1,6 +1,6 @@
 // A number in its columns, read in one pass: the spaces before it, a minus, its digits.
 ghost use mathlib.Core.Path.{_≡_};
-ghost use Prim.Native.Nat.{_≤_, min};
+ghost use Prim.Native.Nat.{_≤_};
 ghost use lib.ListN.{length, take, drop};
 ghost use Rattle.line_format.specs.Bytes.{numberWidth};
 ghost use Rattle.line_format.specs.Columns as C;
@@ -111,15 +111,6 @@ fn integer(columns: &[u8]) -> Number
     plain(natural(columns, from))
 }
 
-fn least(a: usize, b: usize) -> usize
-    ensures { λ r. ⌜ r ≡ min a b ⌝ }
-{
-    if a < b {
-        return a;
-    }
-    b
-}
-
 // The number in the twelve columns that start at an index.
 pub fn number_at(line: &[u8], at: usize) -> Number
     ensures { λ r. ⌜ viewNumber r ≡ integerIn (take numberWidth (drop at (now (line .entry)))) ⌝ }
@@ -128,7 +119,7 @@ pub fn number_at(line: &[u8], at: usize) -> Number
     if len < at {
         return Number::Broken;
     }
-    let end = at + least(NUMBER_WIDTH, len - at);
+    let end = at + line_format::lesser(NUMBER_WIDTH, len - at);
     integer(&line[at..end])
 }
 

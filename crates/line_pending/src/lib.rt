@@ -8,24 +8,15 @@ ghost use Rattle.rules.specs.Lists.{isEmpty};
 ghost use Rattle.line_format.specs.Bytes.{lineLimit};
 ghost use Rattle.line_pending.specs.View.{viewPending, pendingForm, endFrom, between};
 
-fn lesser(a: usize, b: usize) -> usize
-    ensures { λ r. ⌜ r ≡ min a b ⌝ }
-{
-    if a < b {
-        return a;
-    }
-    b
-}
-
 // How many bytes of a piece there are from one position up to another, but no more than there is room for.
 fn taken(size: usize, from: usize, to: usize, room: usize) -> usize
     ensures { λ r. ⌜ r ≡ min room (min to size - from) ⌝ }
 {
-    let end = lesser(to, size);
+    let end = line_format::lesser(to, size);
     if end <= from {
         return 0;
     }
-    lesser(room, end - from)
+    line_format::lesser(room, end - from)
 }
 
 // The first bytes of a line: one more than the longest line in form has, which tells that a line is too long.
@@ -61,7 +52,7 @@ impl Pending {
         ensures shows { λ r. ⌜ viewPending r ≡ take lineLimit (viewPending self ++ between from to (now (piece .entry))) ⌝ }
         ensures form { λ r. ⌜ pendingForm r ≡ true ⌝ }
     {
-        let at = lesser(self.len as usize, Pending::LIMIT);
+        let at = line_format::lesser(self.len as usize, Pending::LIMIT);
         let n = taken(piece.len(), from, to, Pending::LIMIT - at);
         let mut j: usize = 0;
         while j < n {

@@ -7,8 +7,8 @@ use Rattle.line_parse.proofs.columns.number_at.Tie as tie
 returns : tie.Need-returns
 returns c = search (past-none, needs)
 
-least-requires : tie.Need-least-requires
-least-requires c κs = search needs
+lesser-requires : tie.Need-lesser-requires
+lesser-requires c κs = search needs
 
 add-end : tie.Need-add-end
 add-end c = search needs
@@ -33,7 +33,7 @@ number-at-spec =
     tie.close
     (tie.spec
     returns
-    least-requires
+    lesser-requires
     add-end
     sub-integer
     part-integer-start
