@@ -1,54 +1,66 @@
--- What serving a line promises on a plant that keeps the tables' rules: for an allowed choice, the bytes printed and the plant left are
--- those that the format says, the bytes lent past them are as they were, and the plant left keeps the rules.
-use Prim.Native.Nat.{ℕ}
+-- What printing an answer promises: on a plant that keeps the tables' rules the bytes and the plant left are those that the format says, for
+-- an allowed choice; and of any plant, which bytes they are.
+use Prim.Native.Nat.{_*_, _≤_, ℕ}
 use mathlib.Core.Path.{_≡_}
 use mathlib.Core.Bool.{true}
-use mathlib.Core.List.{List, _++_}
-use lib.IntN.{ℤ}
-use lib.ListN.{drop, length}
-use Rattle.rules.specs.Calls.{Pick}
+use mathlib.Core.List.{List, [], _∷_, _++_}
+use lib.ListN.{drop, length, take}
+use Rattle.rules.specs.Limits.{wordsPerField}
+use Rattle.rules.specs.Calls.{Pick, refused}
 use Rattle.rules.specs.Step.{Allowed}
 use Rattle.line_format.specs.Lines as L
 use Rattle.line_format.specs.Serving.{lentWords, ended, performed}
+use Rattle.cache.specs.cached.View.{viewCached}
 use Rattle.plant.specs.View.{viewPlant, keptPlant}
 use Rattle.plant.specs.declared.Plant.{Plant}
-use Rattle.answers.specs.View.{viewAnswer}
+use Rattle.answers.specs.View.{viewAnswer, viewRefusal}
+use Rattle.answers.specs.declared.Refusal as R
 use Rattle.answers.specs.declared.Answer.{Answer}
-use Rattle.calls.specs.View.{viewCall}
-use Rattle.line_parse.specs.View.{viewSaid}
-use Rattle.line_parse.specs.declared.Said.{Said}
-use Rattle.line_parse.specs.declared.Said.the-variants.{Says, Faulty}
-use Rattle.promises.specs.Promise.{chosen, result}
-use Rattle.entry_after.specs.Refused.{RefusalLeaves}
+use Rattle.answers.specs.declared.Answer.the-variants.{Refused, Done, Begun, Read, Changed, Committed, Advanced, Taken, Applied, Deleted, Swept, Reported}
+use Rattle.call_read.specs.Shows.{filled}
+use Rattle.call_read.specs.declared.Seen.{Seen}
 
-pub record Answered (said : L.Said) (p : Plant) (lent out : List ℕ) (len : ℕ) (q : Plant) : Type 0 where
+-- the bytes answered to what a line says, and the plant left
+pub record Answered (said : L.Said) (p : Plant) (bytes : List ℕ) (q : Plant) : Type 0 where
   pub pick : Pick
   pub allowed : Allowed pick (viewPlant p)
-  pub prints : out ≡ (performed said pick (viewPlant p)) .bytes ++ drop len lent
-  pub counts : len ≡ length ((performed said pick (viewPlant p)) .bytes)
+  pub prints : bytes ≡ (performed said pick (viewPlant p)) .bytes
   pub leaves : viewPlant q ≡ (performed said pick (viewPlant p)) .plant
   pub keeps : keptPlant q ≡ true
 
--- what is answered to a line that says a call
-abbrev pub Told : Said → Plant → Answer → Type 0
-Told (Says c) p a = viewAnswer a ≡ result (viewCall c) lentWords p .answer
-Told (Faulty r) p a = Unit {0}
-
--- the same bytes for the choice that the code makes, and the answer that they tell; what is left of the plant follows from the answer
-pub record Tells (said : Said) (p : Plant) (lent out : List ℕ) (len : ℕ) (a : Answer) : Type 0 where
-  pub prints : out ≡ (performed (viewSaid said) (chosen (viewPlant p)) (viewPlant p)) .bytes ++ drop len lent
-  pub counts : len ≡ length ((performed (viewSaid said) (chosen (viewPlant p)) (viewPlant p)) .bytes)
-  pub told : Told said p a
-
 -- ── of any plant, whether it keeps the tables' rules or not ──
--- the bytes printed are the answer's line, with some words
-pub record Line (a : Answer) (lent out : List ℕ) (len : ℕ) : Type 0 where
-  pub words : List ℤ
-  pub prints : out ≡ ended (L.answerLine (viewAnswer a) words) ++ drop len lent
-  pub counts : len ≡ length (ended (L.answerLine (viewAnswer a) words))
+-- bytes at the front of those lent, no more than there may be; those past them are as they were
+pub record Put (most : ℕ) (bytes lent out : List ℕ) (len : ℕ) : Type 0 where
+  pub prints : out ≡ bytes ++ drop len lent
+  pub counts : len ≡ length bytes
+  pub few : len ≤ most
 
--- and where that answer is a refusal the plant left is as it was, by 3 or 4 all tables but the sessions
-pub record LineLeaves (p : Plant) (lent out : List ℕ) (len : ℕ) (q : Plant) : Type 0 where
-  pub answer : Answer
-  pub line : Line answer lent out len
-  pub refusal : RefusalLeaves p answer q
+-- the fields that are shown with an answer, where a read has found so many
+abbrev pub placesBy : Answer → ℕ → ℕ
+placesBy (Refused r) n = 0
+placesBy Done n = 0
+placesBy (Begun s) n = 0
+placesBy (Read m) n = n
+placesBy (Changed k) n = 0
+placesBy (Committed k) n = 0
+placesBy (Advanced t) n = 0
+placesBy (Taken s) n = 0
+placesBy (Applied r) n = 0
+placesBy (Deleted b) n = 0
+placesBy (Swept k) n = 0
+placesBy (Reported a b c) n = 0
+
+abbrev pub placesOf : Seen → ℕ
+placesOf o = placesBy (o .answer) (length (viewCached (o .shown .fields) .fields))
+
+-- the line of what a call answered, with the words that it shows
+abbrev pub toldLine : Seen → List ℕ
+toldLine o = ended (L.answerLine (viewAnswer (o .answer)) (take (wordsPerField * placesOf o) (filled o lentWords)))
+
+abbrev pub toldLines : List Seen → List ℕ
+toldLines [] = []
+toldLines (o ∷ os) = toldLine o ++ toldLines os
+
+-- and the line for a line that says no call
+abbrev pub refusedLine : R.Refusal → List ℕ
+refusedLine r = ended (L.answerLine (refused (viewRefusal r)) [])

@@ -1,92 +1,81 @@
-// One line on the plant: what it says is done, and the answer's line is printed into lent bytes.
-ghost use Prim.Native.Nat.{_*_, _≤_, _<_};
+// What calls answered, printed into lent bytes: a line for each, and one for a line of input that says no call.
+ghost use Prim.Native.Nat.{_*_, _≤_};
 ghost use mathlib.Core.Path.{_≡_};
 ghost use mathlib.Core.Bool.{true};
-ghost use lib.ListN.{length};
-ghost use Rattle.rules.specs.Limits.{wordsPerField, placeLimit};
-ghost use Rattle.line_format.specs.Lines.{said};
-ghost use Rattle.line_format.specs.Serving.{placesShown, lentWords};
+ghost use lib.ListN.{length, take};
+ghost use Rattle.rules.specs.Limits.{wordsPerField};
+ghost use Rattle.line_format.specs.Lines.{says, faulty};
+ghost use Rattle.line_format.specs.Serving.{lentWords};
 ghost use Rattle.calls.specs.View.{viewCall};
-ghost use Rattle.keys.specs.View.{viewKeys};
-ghost use Rattle.plant.specs.View.{plantForm, keptPlant};
+ghost use Rattle.calls.specs.declared.Call.{Call};
+ghost use Rattle.plant.specs.View.{keptPlant};
 ghost use Rattle.plant.specs.declared.Plant.{Plant};
-ghost use Rattle.answers.specs.declared.Answer.the-variants.{Refused};
-ghost use Rattle.line_parse.specs.declared.Said.the-variants.{Says, Faulty};
-ghost use Rattle.promises.specs.Promise.{result, Answers};
+ghost use Rattle.answers.specs.View.{viewRefusal};
+ghost use Rattle.entry.specs.RanAll.{Entered};
 ghost use Rattle.line_print.specs.Line.{longest};
-ghost use Rattle.line_answer.specs.Answered.{Answered, Tells, Line, LineLeaves};
+ghost use Rattle.line_answer.specs.Answered.{Answered, Put, placesOf, toldLine, toldLines, refusedLine};
 use answers::Answer;
 use answers::Refusal;
-use calls::Call;
+use call_read::Seen;
+use calls::Calls;
 use field::Field;
-use keys::Keys;
-use line_parse::Said;
-use plant::Plant;
+use keys::Key;
+use line_print::WORDS;
 
-// The plant left, and how many bytes were printed.
-pub struct Served {
-    pub plant: Plant,
-    pub len: usize,
-}
-
-// How many words a call shows: eight for each place of the key that it reads.
-fn shown(keys: Keys, c: Call) -> usize
-    ensures { λ r. ⌜ r ≡ wordsPerField * placesShown (viewCall c) (viewKeys keys) ⌝ }
+// How many words are shown: eight for each field of an answered read.
+fn shown(o: Seen) -> usize
+    ensures { λ r. ⌜ r ≡ wordsPerField * placesOf o ⌝ }
 {
-    let Call::Read(_, k) = c else {
+    let a = o.answer;
+    let Answer::Read(_) = a else {
         return 0;
     };
-    let number = arguments::index(k, Keys::LIMIT as u8);
-    if Keys::LIMIT <= number as usize {
-        return 0;
+    let marked = o.shown;
+    let fields = marked.fields;
+    let n = fields.count as usize;
+    if Key::LIMIT <= n {
+        return WORDS;
     }
-    let key = keys.key(number);
-    Field::WORDS * key.len() as usize
+    Field::WORDS * n
 }
 
-// Prints what a call answers, with the words that it shows: of every plant with these keys on which that is the answer.
-pub fn tell(keys: Keys, c: Call, a: Answer, words: &[i32], out: &mut [u8]) -> usize
-    ensures tells { λ r. ⌜ ((p : Plant) → p .keys ≡ keys → Answers (viewCall c) lentWords p a → (keptPlant p ≡ true → now (words .entry) ≡ result (viewCall c) lentWords p .words) → length (now (words .entry)) ≡ wordsPerField * placeLimit → longest ≤ length (now (out .entry)) → keptPlant p ≡ true → Tells (Says c) p (now (out .entry)) (now (out .exit)) r a) ⌝ }
+// Prints what a call answered, with the words that it shows: of every call and plant on which it was answered so.
+pub fn tell(o: Seen, out: &mut [u8]) -> usize
+    ensures answers { λ r. ⌜ ((c : Call) (p q : Plant) → Entered c lentWords p o q → longest ≤ length (now (out .entry)) → keptPlant p ≡ true → Answered (says (viewCall c)) p (take r (now (out .exit))) q) ⌝ }
     ensures within { λ r. ⌜ r ≤ length (now (out .entry)) ⌝ }
-    ensures line { λ r. ⌜ (length (now (words .entry)) ≡ wordsPerField * placeLimit → longest ≤ length (now (out .entry)) → Line a (now (out .entry)) (now (out .exit)) r) ⌝ }
+    ensures line { λ r. ⌜ (longest ≤ length (now (out .entry)) → Put longest (toldLine o) (now (out .entry)) (now (out .exit)) r) ⌝ }
 {
-    let n = shown(keys, c);
-    line_print::answer(a, words, n, out)
+    let mut words = [0i32; WORDS];
+    o.fill(&mut words);
+    let n = shown(o);
+    let a = o.answer;
+    line_print::answer(a, &words, n, out)
+}
+
+// Prints what the first n calls answered, one line after the other.
+pub fn tell_all(n: usize, seen: [Seen; Calls::LIMIT], out: &mut [u8]) -> usize
+    ensures within { λ r. ⌜ r ≤ length (now (out .entry)) ⌝ }
+    ensures lines { λ r. ⌜ (longest * length (take n seen) ≤ length (now (out .entry)) → Put (longest * length (take n seen)) (toldLines (take n seen)) (now (out .entry)) (now (out .exit)) r) ⌝ }
+{
+    let mut wrote: usize = 0;
+    let mut i: usize = 0;
+    while i < Calls::LIMIT {
+        if n <= i {
+            return wrote;
+        }
+        let o = seen[i];
+        wrote += tell(o, &mut out[wrote..]);
+        i += 1;
+    }
+    wrote
 }
 
 // Prints the refusal of a line that says no call.
 pub fn refuse(r: Refusal, out: &mut [u8]) -> usize
-    ensures tells { λ n. ⌜ ((p : Plant) → longest ≤ length (now (out .entry)) → keptPlant p ≡ true → Tells (Faulty r) p (now (out .entry)) (now (out .exit)) n (Refused r)) ⌝ }
+    ensures answers { λ n. ⌜ ((p : Plant) → longest ≤ length (now (out .entry)) → keptPlant p ≡ true → Answered (faulty (viewRefusal r)) p (take n (now (out .exit))) p) ⌝ }
     ensures within { λ n. ⌜ n ≤ length (now (out .entry)) ⌝ }
-    ensures line { λ n. ⌜ (longest ≤ length (now (out .entry)) → Line (Refused r) (now (out .entry)) (now (out .exit)) n) ⌝ }
+    ensures line { λ n. ⌜ (longest ≤ length (now (out .entry)) → Put longest (refusedLine r) (now (out .entry)) (now (out .exit)) n) ⌝ }
 {
     let none = [0i32; 1];
     line_print::answer(Answer::Refused(r), &none, 0, out)
-}
-
-// Where too few bytes are lent for any answer nothing is done, and 0 bytes are printed.
-pub fn serve(p: Plant, line: &[u8], out: &mut [u8]) -> Served
-    ensures serves { λ r. ⌜ (longest ≤ length (now (out .entry)) → keptPlant p ≡ true → Answered (said (now (line .entry))) p (now (out .entry)) (now (out .exit)) (r .len) (r .plant)) ⌝ }
-    ensures short { λ r. ⌜ (length (now (out .entry)) < longest → (r .plant ≡ p) × ((r .len ≡ 0) × (now (out .exit) ≡ now (out .entry)))) ⌝ }
-    ensures within { λ r. ⌜ r .len ≤ length (now (out .entry)) ⌝ }
-    ensures form { λ r. ⌜ (plantForm p ≡ true → plantForm (r .plant) ≡ true) ⌝ }
-    ensures refused { λ r. ⌜ (longest ≤ length (now (out .entry)) → LineLeaves p (now (out .entry)) (now (out .exit)) (r .len) (r .plant)) ⌝ }
-{
-    if out.len() < line_print::LONGEST {
-        return Served { plant: p, len: 0 };
-    }
-    let said = line_parse::parse(line);
-    match said {
-        Said::Says(c) => {
-            let mut words = [0i32; line_print::WORDS];
-            let answer = entry_answer::answer(p, c, &mut words);
-            let len = tell(p.keys, c, answer, &words, out);
-            let plant = entry_after::after(p, c, answer);
-            Served { plant, len }
-        }
-        Said::Faulty(r) => {
-            let len = refuse(r, out);
-            Served { plant: p, len }
-        }
-    }
 }

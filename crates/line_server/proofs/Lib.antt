@@ -1,3 +1,5 @@
 -- The proofs of the server.
+mod Gathering
 mod Laws
+mod Batch
 pub mod Input

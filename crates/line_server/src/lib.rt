@@ -1,19 +1,23 @@
 // A server of lines: it takes input in pieces of any size, answers each line once byte 10 has ended it, and keeps of a line that is not
 // ended its first bytes.
-ghost use Prim.Native.Nat.{_+_, _<_, _≤_};
+ghost use Prim.Native.Nat.{_+_, _*_, _<_, _≤_};
 ghost use mathlib.Core.Path.{_≡_};
 ghost use mathlib.Core.Bool.{true};
 ghost use mathlib.Core.List.{[], _++_};
-ghost use lib.ListN.{length};
+ghost use lib.ListN.{length, take};
 ghost use Rattle.rules.specs.Tables.{setup};
 ghost use Rattle.line_format.specs.Lines.{said};
 ghost use Rattle.line_print.specs.Line.{longest};
 ghost use Rattle.plant.specs.View.{viewPlant};
 ghost use Rattle.line_pending.specs.View.{viewPending, between};
 ghost use Rattle.line_parse.specs.View.{viewSaid};
+ghost use Rattle.line_answer.specs.Answered.{Put, toldLines};
+ghost use Rattle.line_server.specs.Gathers.{Gathers, stops, stopLine};
 ghost use Rattle.line_server.specs.Fed.{keptServer, Within, Past, Fed, Finished, Untouched, FormKept};
-use call_read_shown::Marked;
-use calls::Call;
+use answers::Refusal;
+use call_read::Seen;
+use calls::Calls;
+use calls::Item;
 use line_parse::Said;
 use line_pending::Pending;
 use plant::Plant;
@@ -57,9 +61,85 @@ fn heard(kept: Pending, piece: &[u8], from: usize, to: usize) -> Said
     line_parse::parse(&bytes[..len])
 }
 
-// Takes the piece as far as there is room for its answers, and nothing of it where too few bytes are lent for any. The plant lies here: calls
-// are asked where it lies and their tables are written in place, because a plant that goes through a function is copied. What a read shows is
-// kept for the cache, and not worked out again.
+// Whether a line that says no call ended the gathering.
+enum Stop {
+    Faulty(Refusal),
+    Not,
+}
+
+// The calls of lines in their order, what is kept of a line that is not ended, and how far the piece is used.
+struct Gathered {
+    calls: Calls,
+    pending: Pending,
+    used: usize,
+    stop: Stop,
+}
+
+// The calls that the piece's lines say from a position on: no more than there is room for answers, and up to a line that says none.
+fn gather(first: Pending, piece: &[u8], from: usize, room: usize) -> Gathered
+    requires { ⌜ from ≤ length (now piece) ⌝ }
+    ensures { λ r. ⌜ Gathers first (now (piece .entry)) from room r ⌝ }
+{
+    let mut calls = Calls::none();
+    let mut kept = first;
+    let mut used = from;
+    let mut left = room;
+    while used < piece.len() {
+        let at = calls.count as usize;
+        if left < line_print::LONGEST || Calls::LIMIT <= at {
+            break;
+        }
+        let end = line_pending::line_end(piece, used);
+        if piece.len() <= end {
+            let pending = kept.add(piece, used, end);
+            return Gathered {
+                calls,
+                pending,
+                used: end,
+                stop: Stop::Not,
+            };
+        }
+        let said = heard(kept, piece, used, end);
+        kept = Pending::empty();
+        used = end + 1;
+        left -= line_print::LONGEST;
+        match said {
+            Said::Says(c) => {
+                calls.items[at] = Item { call: c };
+                calls.count = calls.count + 1;
+            }
+            Said::Faulty(r) => {
+                return Gathered {
+                    calls,
+                    pending: kept,
+                    used,
+                    stop: Stop::Faulty(r),
+                };
+            }
+        }
+    }
+    Gathered {
+        calls,
+        pending: kept,
+        used,
+        stop: Stop::Not,
+    }
+}
+
+// The answers to calls that were run, and to the line that ended the gathering if it says none.
+fn reply(n: usize, seen: [Seen; Calls::LIMIT], stop: Stop, out: &mut [u8]) -> usize
+    ensures within { λ r. ⌜ r ≤ length (now (out .entry)) ⌝ }
+    ensures lines { λ r. ⌜ (longest * (length (take n seen) + stops stop) ≤ length (now (out .entry)) → Put (longest * (length (take n seen) + stops stop)) (toldLines (take n seen) ++ stopLine stop) (now (out .entry)) (now (out .exit)) r) ⌝ }
+{
+    let wrote = line_answer::tell_all(n, seen, out);
+    match stop {
+        Stop::Faulty(r) => wrote + line_answer::refuse(r, &mut out[wrote..]),
+        Stop::Not => wrote,
+    }
+}
+
+// Takes the piece as far as there is room for its answers, and nothing of it where too few bytes are lent for any: gathers the calls of some
+// lines, runs them, and prints what they answered.
 pub fn feed(s: Server, piece: &[u8], out: &mut [u8]) -> Server
     ensures feeds { λ r. ⌜ (keptServer s ≡ true → Fed s (now (piece .entry)) (now (out .exit)) r) ⌝ }
     ensures within { λ r. ⌜ Within r (now (piece .entry)) (now (out .entry)) ⌝ }
@@ -74,7 +154,8 @@ pub fn feed(s: Server, piece: &[u8], out: &mut [u8]) -> Server
     let mut used: usize = 0;
     let mut wrote: usize = 0;
     while used < piece.len() {
-        if out.len() - wrote < line_print::LONGEST {
+        let room = out.len() - wrote;
+        if room < line_print::LONGEST {
             return Server {
                 plant: p,
                 pending: kept,
@@ -82,137 +163,15 @@ pub fn feed(s: Server, piece: &[u8], out: &mut [u8]) -> Server
                 wrote,
             };
         }
-        let end = line_pending::line_end(piece, used);
-        if piece.len() <= end {
-            let pending = kept.add(piece, used, end);
-            return Server {
-                plant: p,
-                pending,
-                used: end,
-                wrote,
-            };
-        }
-        let said = heard(kept, piece, used, end);
-        kept = Pending::empty();
-        used = end + 1;
-        let c = match said {
-            Said::Says(c) => c,
-            Said::Faulty(r) => {
-                wrote += line_answer::refuse(r, &mut out[wrote..]);
-                continue;
-            }
-        };
-        let mut words = [0i32; line_print::WORDS];
-        let mut shown = Marked::nothing();
-        let a = match c {
-            Call::Read(s, k) => {
-                let seen = call_read::ask(p, s, k, &mut words);
-                shown = seen.shown;
-                seen.answer
-            }
-            Call::Change(s, d, f, k, v) => call_change::answer(p, s, d, f, k, v),
-            _ => entry_answer::plain(p, c),
-        };
-        wrote += line_answer::tell(p.keys, c, a, &words, &mut out[wrote..]);
-        if a.ends_session() {
-            let sessions = entry_after::ended(p, c);
-            p.sessions = sessions;
-            continue;
-        }
-        if a.is_refused() {
-            continue;
-        }
-        match c {
-            Call::Load(d, f, k, v) => {
-                let store = call_load::after(p, d, f, k, v);
-                p.store = store;
-            }
-            Call::Map(k, n, d1, f1, d2, f2, d3, f3, d4, f4) => {
-                let keys = call_map::after(p, k, n, d1, f1, d2, f2, d3, f3, d4, f4);
-                p.keys = keys;
-            }
-            Call::Begin => {
-                let t = call_begin::after(p);
-                let sessions = t.sessions;
-                p.sessions = sessions;
-                p.next = t.next;
-            }
-            Call::Read(s, k) => {
-                let t = call_read::after(p, s, k, shown);
-                let cache = t.cache;
-                let sessions = t.sessions;
-                p.cache = cache;
-                p.sessions = sessions;
-            }
-            Call::Change(s, d, f, k, v) => {
-                let sessions = call_change::after(p, s, d, f, k, v);
-                p.sessions = sessions;
-            }
-            Call::Commit(s) => {
-                let t = call_commit::after(p, s);
-                let buffer = t.buffer;
-                let cache = t.cache;
-                let sessions = t.sessions;
-                p.buffer = buffer;
-                p.cache = cache;
-                p.sessions = sessions;
-            }
-            Call::Abandon(s) => {
-                let sessions = call_abandon::after(p, s);
-                p.sessions = sessions;
-            }
-            Call::Advance(n) => {
-                let t = call_advance::after(p, n);
-                let cache = t.cache;
-                let sessions = t.sessions;
-                let queue = t.queue;
-                p.cache = cache;
-                p.sessions = sessions;
-                p.queue = queue;
-                p.clock = t.clock;
-            }
-            Call::Take(w) => {
-                let t = call_take::after(p, w);
-                let hands = t.hands;
-                let queue = t.queue;
-                p.hands = hands;
-                p.queue = queue;
-            }
-            Call::Apply(w, f) => {
-                let t = call_apply::after(p, w, f);
-                let store = t.store;
-                let rows = t.rows;
-                let hands = t.hands;
-                p.store = store;
-                p.rows = rows;
-                p.hands = hands;
-            }
-            Call::Delete(w) => {
-                let t = call_delete::after(p, w);
-                let buffer = t.buffer;
-                let hands = t.hands;
-                let queue = t.queue;
-                p.buffer = buffer;
-                p.hands = hands;
-                p.queue = queue;
-            }
-            Call::Cut(w) => {
-                let t = call_cut::after(p, w);
-                let hands = t.hands;
-                let queue = t.queue;
-                p.hands = hands;
-                p.queue = queue;
-            }
-            Call::Sweep => {
-                let rows = call_sweep::after(p);
-                p.rows = rows;
-            }
-            Call::Store(n) => {
-                let near = call_store::after(p, n);
-                p.near = near;
-            }
-            Call::Report(_) => {}
-        }
+        let g = gather(kept, piece, used, room);
+        let calls = g.calls;
+        let o = entry::run_all(p, calls, line_print::WORDS);
+        let seen = o.seen;
+        let stop = g.stop;
+        p = o.plant;
+        kept = g.pending;
+        used = g.used;
+        wrote += reply(calls.count as usize, seen, stop, &mut out[wrote..]);
     }
     Server {
         plant: p,
