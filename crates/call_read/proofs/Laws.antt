@@ -8,7 +8,6 @@ use lib.IntN.{ℤ, pos}
 use lib.ListN.{length, length-map}
 use mir.Syntax.{w64}
 use mir.Val.{SFits}
-use mir.ValLaws.{toZ-ofZ}
 use borrow.Author.Tests.{not-false, ltb-true, ltb-false, le-leb}
 use Rattle.rules.specs.Limits.{keyCount, wordsPerField}
 use Rattle.rules.specs.Values as S
@@ -54,8 +53,7 @@ use Rattle.call_read_shown.specs.Fields.{ownOf, byMark, shownFields}
 use Rattle.call_read_shown.specs.declared.Marked.{Marked}
 use Rattle.call_read_shown.proofs.Kept.{shown-is, cache-is}
 use Rattle.call_read.specs.Left.{left}
-use Rattle.call_read.specs.Shows.{Shows, wordsBy, foundAnswer, foundWords, filledBy, Found}
-use Rattle.call_read.specs.declared.Seen.{Seen}
+use Rattle.call_read.specs.Shows.{Shows, wordsBy, foundAnswer, foundWords, filledBy}
 use Rattle.call_read.proofs.Filled.{refused-leaves}
 use Rattle.call_read.proofs.Named.{named}
 
@@ -208,10 +206,6 @@ module _ (p : Plant) (z : ℤ) (fz : SFits w64 z) (n : ℕ) (en : n ≡ sessionN
 
     pub shown-all : (m : Marked) → viewMark (m .mark) ≡ mark n k (looked p n k) → viewCached (m .fields) ≡ record { key = k; fields = shownFields n k (looked p n k) } → FoundSo (fine (markNumber (viewMark (m .mark)) ∷ [])) (shownIn (viewCached (m .fields) .fields) lent)
     shown-all m em ec = (shown-found (m .mark) em (m .fields) ec, (marked (m .mark) em, shown-filled (m .fields) ec))
-
--- by numbers that went through a call
-pub found-by : (p : Plant) (lent : ℕ) (o : Seen) (z : ℤ) → SFits w64 z → (y : ℤ) → SFits w64 y → Found (held z) (held y) p lent o → Found z y p lent o
-found-by p lent o z fz y fy h = rw (toZ-ofZ w64 z fz, toZ-ofZ w64 y fy) at h
 
 -- ── what it shows ──
 module _ (p : Plant) (z : ℤ) (fz : SFits w64 z) (n : ℕ) (en : n ≡ sessionNumber (held z))

@@ -2,16 +2,13 @@
 pub mod admission;
 
 ghost use mathlib.Core.Path.{_≡_};
-ghost use mathlib.Core.Bool.{true, false};
+ghost use mathlib.Core.Bool.{true};
 ghost use Rattle.rules.specs.Calls.{Read};
-ghost use Rattle.plant.specs.View.{plantForm, keptPlant};
+ghost use Rattle.plant.specs.View.{plantForm};
 ghost use Rattle.cache.specs.cached.Form.{cachedForm};
-ghost use Rattle.answers.specs.View.{viewAnswer, isRefused};
-ghost use Rattle.answers.specs.Own.{isAnswerOf};
-ghost use Rattle.promises.specs.Promise.{result, Answers, Performs};
-ghost use Rattle.sight.specs.Sight.{atHand};
+ghost use Rattle.promises.specs.Promise.{Performs};
 ghost use Rattle.call_read.specs.Left.{left};
-ghost use Rattle.call_read.specs.Shows.{Shows, foundAnswer, foundWords, filled, Found};
+ghost use Rattle.call_read.specs.Shows.{Shows, filled, Found};
 use answers::Answer;
 use cache::Cache;
 use call_read_shown::Marked;
@@ -71,36 +68,6 @@ pub fn found(p: Plant, session: i64, key: i64, lent: usize) -> Seen
     let mark = shown.mark;
     let answer = Answer::Read(mark);
     Seen { answer, shown }
-}
-
-pub fn ask(p: Plant, session: i64, key: i64, words: &mut [i32]) -> Seen
-    ensures away { λ r. ⌜ (p .near ≡ false → (viewAnswer (r .answer) ≡ foundAnswer session key (now (words .entry)) (atHand p)) × (now (words .exit) ≡ foundWords session key (now (words .entry)) (atHand p))) ⌝ }
-    ensures answers { λ r. ⌜ Answers (Read session key) (now (words .entry)) p (r .answer) ⌝ }
-    ensures fills { λ r. ⌜ (keptPlant p ≡ true → now (words .exit) ≡ result (Read session key) (now (words .entry)) p .words) ⌝ }
-    ensures own { λ r. ⌜ isAnswerOf (Read session key) (r .answer) ≡ true ⌝ }
-    ensures shows { λ r. ⌜ (isRefused (viewAnswer (r .answer)) ≡ false → Shows session key p (r .shown)) ⌝ }
-    ensures form { λ r. ⌜ (plantForm p ≡ true → cachedForm (r .shown .fields) ≡ true) ⌝ }
-    ensures memory { λ r. ⌜ (isRefused (viewAnswer (r .answer)) ≡ true → now (words .exit) ≡ now (words .entry)) ⌝ }
-{
-    let seen = found(p, session, key, words.len());
-    seen.fill(words);
-    seen
-}
-
-// What a read that is not refused shows.
-pub fn shown(p: Plant, session: i64, key: i64) -> Marked
-    ensures shows { λ r. ⌜ Shows session key p r ⌝ }
-    ensures form { λ r. ⌜ (plantForm p ≡ true → cachedForm (r .fields) ≡ true) ⌝ }
-{
-    let store = p.store;
-    let keys = p.keys;
-    let cache = p.cache;
-    let sessions = p.sessions;
-    let buffer = p.buffer;
-    let rows = p.rows;
-    let n = arguments::session(session);
-    let k = arguments::index(key, Keys::LIMIT as u8);
-    call_read_shown::shown(p.near, store, keys, cache, sessions, buffer, rows, n, k)
 }
 
 // The tables that the call writes, as it leaves them.

@@ -24,8 +24,8 @@ use Rattle.promises.specs.Promise.{chosen, result, Answers, Leaves, Keeps}
 use Rattle.call_read.specs.Shows.{Shows, Found, filled}
 use Rattle.call_read.specs.declared.Seen.{Seen}
 use Rattle.call_read.proofs.Filled.{refused-leaves, own-leaves}
-use Rattle.entry_after.specs.Refused.{RefusalLeaves}
-use Rattle.entry_answer.specs.Plain.{isPlain}
+use Rattle.entry.specs.Refused.{RefusalLeaves}
+use Rattle.entry_arms.specs.Plain.{isPlain}
 use Rattle.entry.specs.RanAll.{Entered}
 use Rattle.entry.proofs.Laws.{ran}
 

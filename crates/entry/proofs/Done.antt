@@ -1,6 +1,6 @@
 -- What a call leaves in the loop: its session ends, nothing changes, or the tables are written that it writes.
-use mathlib.Core.Path.{_≡_}
-use mathlib.Core.Bool.{Bool, true, false}
+use mathlib.Core.Path.{_≡_, refl, sym, _∙_, subst}
+use mathlib.Core.Bool.{Bool, true, false, true≢false}
 use Rattle.rules.specs.Step.{sessionOf, ending}
 use Rattle.sessions.specs.declared.Sessions.{Sessions}
 use Rattle.plant.specs.View.{viewPlant, plantForm, keptPlant}
@@ -13,9 +13,22 @@ use Rattle.calls.specs.declared.Call.{Call}
 use Rattle.promises.specs.Promise.{Performs}
 use Rattle.promises.proofs.Leaving.{stays, ends}
 use Rattle.promises.proofs.Chosen.{and-keeps, performed}
-use Rattle.entry_after.proofs.Laws.{left, leaves-others, leaves-all, was-accepted}
+use Rattle.entry.specs.Refused.{RefusalLeaves}
 use Rattle.entry.proofs.Asked.{Done}
 
+-- ── what a refusal leaves of any plant ──
+module _ (p : Plant) (a : Answer) (e : Bool) (ee : e ≡ isEnding (viewAnswer a)) where
+  leaves-others : e ≡ true → (t : Sessions) → RefusalLeaves p a (withSessions p t)
+  leaves-others h t = record { unchanged = λ r n. absurd (true≢false (sym h ∙ ee ∙ n)); others = λ n. refl }
+
+  module _ (h : e ≡ false) where
+    leaves-all : RefusalLeaves p a p
+    leaves-all = record { unchanged = λ r n. refl; others = λ n. refl }
+
+    was-accepted : (r : Bool) → r ≡ isRefused (viewAnswer a) → r ≡ false → (q : Plant) → RefusalLeaves p a q
+    was-accepted r er g q = record { unchanged = λ i n. absurd (true≢false (sym i ∙ sym er ∙ g)); others = λ n. absurd (true≢false (sym n ∙ sym ee ∙ h)) }
+
+-- ── with all that is promised of it ──
 module _ (c : Call) (p : Plant) (a : Answer) (e : Bool) (ee : e ≡ isEnding (viewAnswer a)) where
   pub done-ended : e ≡ true → (t : Sessions) → (keptPlant p ≡ true → viewPlant (withSessions p t) ≡ ending (sessionOf (viewCall c)) (viewPlant p)) × (plantForm p ≡ true → plantForm (withSessions p t) ≡ true) → Done c p a (withSessions p t)
   done-ended h t f = (leaves-others p a e ee h t, and-keeps (viewCall c) p (withSessions p t) a (ends (viewCall c) p a e ee h (withSessions p t) (f .0)) (f .1))
@@ -26,5 +39,5 @@ module _ (c : Call) (p : Plant) (a : Answer) (e : Bool) (ee : e ≡ isEnding (vi
 
     pub done-by : r ≡ false → (y : Call) → c ≡ y → (q : Plant) → Performs (viewCall y) p q × (plantForm p ≡ true → plantForm q ≡ true) → Done c p a q
     done-by h y ey q f =
-        let x = left p c y ey q f in
+        let x = subst (λ z. Performs (viewCall z) p q × (plantForm p ≡ true → plantForm q ≡ true)) (sym ey) f in
         (was-accepted p a e ee g r er h q, performed (viewCall c) p q a r er h (x .0) (x .1))

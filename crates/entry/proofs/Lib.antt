@@ -1,4 +1,4 @@
--- The entry's promise from its two parts, and the three demands of the code.
+-- What a call is answered and what it leaves, calls run one after the other, and the three demands of the code.
 mod Laws
 mod Asked
 mod Done

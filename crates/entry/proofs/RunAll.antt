@@ -4,7 +4,7 @@ use native.Mathlib.Omega.{arith}
 use native.Mathlib.Numerals.{add-one}
 use mathlib.Core.Path.{_≡_, refl, sym, _∙_, ap, subst}
 use mathlib.Core.Bool.{true}
-use mathlib.Core.List.{List, [], _∷_, _++_, map}
+use mathlib.Core.List.{List, [], _∷_, _++_}
 use lib.Dec.{leb}
 use lib.IntN.{ℤ}
 use lib.ListN.{length, take, set, getD, length-set}
@@ -22,7 +22,7 @@ use Rattle.calls.specs.declared.Calls.{Calls}
 use Rattle.calls.specs.declared.Call.{Call}
 use Rattle.call_read.specs.Shows.{filled}
 use Rattle.call_read.specs.declared.Seen.{Seen}
-use Rattle.entry_after.specs.Refused.{RefusalLeaves}
+use Rattle.entry.specs.Refused.{RefusalLeaves}
 use Rattle.entry.specs.Ran.{Ran}
 use Rattle.entry.specs.RanAll.{Entered, RanAll}
 

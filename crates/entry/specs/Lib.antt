@@ -1,5 +1,6 @@
 -- What the entry promises of one call and of a list, demands 1 and 2 of its calls, and demand 3 of every list of calls.
 pub mod Ran
+pub mod Refused
 pub mod RanAll
 pub mod Demand3
 pub mod Demands

@@ -14,7 +14,7 @@ use Rattle.calls.specs.declared.Call.{Call}
 use Rattle.calls.specs.declared.Call.the-variants.{Read}
 use Rattle.call_read.specs.Shows.{Shows, filled}
 use Rattle.call_read.specs.declared.Seen.{Seen}
-use Rattle.entry_after.specs.Refused.{RefusalLeaves}
+use Rattle.entry.specs.Refused.{RefusalLeaves}
 use Rattle.entry.specs.Ran.{Ran}
 
 -- a call, with these words lent to it: the promises of `run`, and what a read that is not refused shows

@@ -6,9 +6,9 @@ ghost use Rattle.plant.specs.View.{plantForm, keptPlant};
 ghost use Rattle.answers.specs.View.{viewAnswer, isRefused};
 ghost use Rattle.answers.specs.Own.{isAnswerOf};
 ghost use Rattle.calls.specs.View.{viewCall, viewCalls};
-ghost use Rattle.entry_after.specs.Refused.{RefusalLeaves};
 ghost use Rattle.entry.specs.Ran.{Ran};
 ghost use Rattle.entry.specs.RanAll.{RanAll};
+ghost use Rattle.entry.specs.Refused.{RefusalLeaves};
 use answers::Answer;
 use call_read::Seen;
 use calls::Call;
@@ -36,13 +36,13 @@ pub fn run_all(mut p: Plant, calls: Calls, lent: usize) -> Outcomes
         let o = match c {
             Call::Read(s, k) => call_read::found(p, s, k, lent),
             Call::Change(s, d, f, k, v) => Seen::of(call_change::answer(p, s, d, f, k, v)),
-            _ => Seen::of(entry_answer::plain(p, c)),
+            _ => Seen::of(entry_arms::plain(p, c)),
         };
         seen[i] = o;
         i += 1;
         let a = o.answer;
         if a.ends_session() {
-            let sessions = entry_after::ended(p, c);
+            let sessions = entry_arms::ended(p, c);
             p.sessions = sessions;
             continue;
         }

@@ -36,7 +36,7 @@ returns : tie.Need-returns
 returns c =
     let all = c .before .before .before .before .before in
     let given = all .before .before .before .args in
-    let one = all .before .push .ensures ∙ first _ (given .c) (all .before .before .none .ensures) in
+    let one = all .before .push .ensures ∙ first _ (given .c) (all .before .before .none .ensures .0) in
     promised _ _ (given .p) _ _ (ran-one _ (given .p) _ _ one (all .before .push .result .count) (all .run-all .result .seen) (all .run-all .result .plant) (all .run-all .ensures) _ (now (given .words)) refl) _
     (c .before .before .fill .ensures)
 

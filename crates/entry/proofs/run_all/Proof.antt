@@ -17,7 +17,7 @@ use Rattle.calls.specs.declared.Call.{Call}
 use Rattle.calls.specs.declared.Call.the-variants.{Load, Map, Read, Change, Commit, Abandon, Advance, Take, Apply, Delete, Cut, Store}
 use Rattle.calls.specs.declared.Item.{Item}
 use Rattle.calls.proofs.Back.{back1, back2, back4, back5, back10}
-use Rattle.entry_answer.proofs.Laws.{not-seeing}
+use Rattle.entry_arms.proofs.Laws.{not-seeing}
 use Rattle.entry.proofs.RunAll.{Running, running-start, running-next, running-end, within, few-calls, call-at, all-taken}
 use Rattle.entry.proofs.Asked.{Asked, asked-read, asked-other, asked-plain, Done, entered}
 use Rattle.entry.proofs.Done.{done-ended, done-nothing, done-by}
@@ -44,6 +44,7 @@ all-items c = search (length-mapped, needs)
 loop-holds : tie.Need-loop-holds Inv-loop μ-loop
 loop-holds c = running-start _ _ _ _ (few-calls (c .before .before .args .t2) (all-items c)) refl
 
+-- the call is one of the list
 inside : (c : tie.In-loop Inv-loop μ-loop) → c .before .loop .i < length (viewCalls (c .before .before .before .before .args .t2))
 inside c = omega (arith, c .loop-test .taken, c .before .before .len .ensures)
 
@@ -74,7 +75,7 @@ plain-requires c κs = search needs
 of-requires-3 : tie.Need-of-requires-3 Inv-loop μ-loop
 of-requires-3 c κs = search needs
 
--- the call
+-- ── where it is answered ──
 abbrev any : Item
 any = record { call = Load (pos 0) (pos 0) (pos 0) (pos 0) }
 
@@ -84,7 +85,11 @@ call c = getD (c .before .before .before .before .before .args .t2 .items) (c .b
 abbrev Answered : Type 0
 Answered = tie.At-match-came Inv-loop μ-loop
 
-question : (c : Answered) → Asked (c .before .before .before .before .before .before .args .lent) (c .before .before .before .loop .p) (c .match .c) (c .match .o)
+-- the plant that was asked
+abbrev plant : Answered → Plant
+plant c = c .before .before .before .loop .p
+
+question : (c : Answered) → Asked (c .before .before .before .before .before .before .args .lent) (plant c) (c .match .c) (c .match .o)
 question c =
     ⊎-elim (λ w. asked-read _ _ _ _ (w .3 .result) _ _ (back2 Read _ _ (w .4) (search needs) (search needs)) (w .5) (w .3 .ensures))
     (⊎-elim (λ w. asked-other _ _ _ _ (w .4 .result) (w .6) (w .3 .result) (w .4 .ensures .0) (w .4 .ensures .1) _ (back5 Change _ _ _ _ _ (w .5) (search needs) (search needs) (search needs) (search needs) (search needs)) refl (w .3 .ensures .1 .0) (w .3 .ensures .1 .1))
@@ -103,7 +108,10 @@ add-i : tie.Need-add-i Inv-loop μ-loop
 add-i c = search needs
 
 -- one call more is run, with the plant that it leaves
-again : (c : Answered) (q : Plant) → Done (c .match .c) (c .before .before .before .loop .p) (c .match .o .answer) q → Running (c .before .before .before .before .before .before .args .lent) (c .before .before .before .before .before .before .args .p) (viewCalls (c .before .before .before .before .before .before .args .t2)) (set (c .before .before .before .loop .seen) (c .before .before .before .loop .i) (c .match .o)) (c .before .before .before .loop .i + 1) q
+abbrev Run : Answered → Plant → Type 0
+Run c q = Running (c .before .before .before .before .before .before .args .lent) (c .before .before .before .before .before .before .args .p) (viewCalls (c .before .before .before .before .before .before .args .t2)) (set (c .before .before .before .loop .seen) (c .before .before .before .loop .i) (c .match .o)) (c .before .before .before .loop .i + 1) q
+
+again : (c : Answered) (q : Plant) → Done (c .match .c) (plant c) (c .match .o .answer) q → Run c q
 again c q d =
     let h = inside (c .before .before) in
     running-next _ _ _ _ _ _ (c .before .before .before .loop .inv) h (c .match .c) (any .call) (said c ∙ call-at (c .before .before .before .before .before .before .args .t2) (all-items (c .before .before .before .before)) any _ h) (c .match .o) q (entered _ _ _ _ (question c) q d)
@@ -123,7 +131,7 @@ loop-less c = less (c .before .before .before)
 loop-again : tie.Need-loop-again Inv-loop μ-loop
 loop-again c =
     let q = c .before .before .before in
-    again q _ (done-ended (q .match .c) (q .before .before .before .loop .p) (q .match .o .answer) _ (c .before .before .ends-session .ensures) (c .before .if1 .taken) _ (c .ended .ensures))
+    again q _ (done-ended (q .match .c) (plant q) (q .match .o .answer) _ (c .before .before .ends-session .ensures) (c .before .if1 .taken) _ (c .ended .ensures))
 
 is-refused-requires : tie.Need-is-refused-requires Inv-loop μ-loop
 is-refused-requires c κs = search needs
@@ -134,7 +142,7 @@ loop-less-2 c = less (c .before .before .before .before)
 loop-again-2 : tie.Need-loop-again-2 Inv-loop μ-loop
 loop-again-2 c =
     let q = c .before .before .before .before in
-    again q _ (done-nothing (q .match .c) (q .before .before .before .loop .p) (q .match .o .answer) _ (c .before .before .before .ends-session .ensures) (c .before .before .if1 .left) _ (c .before .is-refused .ensures) (c .if2 .taken))
+    again q _ (done-nothing (q .match .c) (plant q) (q .match .o .answer) _ (c .before .before .before .ends-session .ensures) (c .before .before .if1 .left) _ (c .before .is-refused .ensures) (c .if2 .taken))
 
 -- ── where it is no refusal ──
 abbrev Accepted : Type 0
@@ -143,13 +151,10 @@ Accepted = tie.Else2 Inv-loop μ-loop
 abbrev answered : Accepted → Answered
 answered c = c .before .before .before .before
 
-abbrev plant : Accepted → Plant
-plant c = answered c .before .before .before .loop .p
-
 -- by the tables that the call writes
-done : (c : Accepted) (y : Call) → answered c .match .c ≡ y → (q : Plant) → Performs (viewCall y) (plant c) q × (plantForm (plant c) ≡ true → plantForm q ≡ true) → Running (answered c .before .before .before .before .before .before .args .lent) (answered c .before .before .before .before .before .before .args .p) (viewCalls (answered c .before .before .before .before .before .before .args .t2)) (set (answered c .before .before .before .loop .seen) (answered c .before .before .before .loop .i) (answered c .match .o)) (answered c .before .before .before .loop .i + 1) q
+done : (c : Accepted) (y : Call) → answered c .match .c ≡ y → (q : Plant) → Performs (viewCall y) (plant (answered c)) q × (plantForm (plant (answered c)) ≡ true → plantForm q ≡ true) → Run (answered c) q
 done c y e q f =
-    again (answered c) q (done-by (answered c .match .c) (plant c) (answered c .match .o .answer) _ (c .before .before .before .ends-session .ensures) (c .before .before .if1 .left) _ (c .before .is-refused .ensures) (c .if2 .left) y e q f)
+    again (answered c) q (done-by (answered c .match .c) (plant (answered c)) (answered c .match .o .answer) _ (c .before .before .before .ends-session .ensures) (c .before .before .if1 .left) _ (c .before .is-refused .ensures) (c .if2 .left) y e q f)
 
 enum-known-c-3 : tie.Need-enum-known-c-3 Inv-loop μ-loop
 enum-known-c-3 c = search needs

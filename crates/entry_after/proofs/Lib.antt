@@ -1,2 +1,0 @@
--- The proofs of what calls leave.
-pub mod Laws

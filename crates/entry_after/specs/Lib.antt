@@ -1,2 +1,0 @@
--- What a refusal leaves of any plant.
-pub mod Refused

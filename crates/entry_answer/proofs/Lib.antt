@@ -1,2 +1,0 @@
--- The proof of the answer.
-pub mod Laws

@@ -1,0 +1,2 @@
+-- Laws of the arms over all calls.
+pub mod Laws
