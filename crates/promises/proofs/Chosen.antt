@@ -72,12 +72,12 @@ kept-left c lent p q e k f =
     let h = and-true (plantForm p) (kept (viewPlant p)) k .1 in
     both (plantForm q) (kept (viewPlant q)) f (ap kept e ∙ kept-step c lent (chosen (viewPlant p)) (viewPlant p) (chosen-allowed (viewPlant p) h) h)
 
--- so does the plant that `entry_after::after` gives, whichever call it is
+-- so does the plant that a call leaves, whichever it is
 pub leaves-keep : (c : Call) (p q : Plant) (a : Answer) → Leaves c p a q → (plantForm p ≡ true → plantForm q ≡ true) → Keeps c p a q
 unfolding keptPlant
 leaves-keep c p q a l f k lent e = kept-left c lent p q (l k lent e) k (f (and-true (plantForm p) (kept (viewPlant p)) k .0))
 
--- the three promises of `entry_after::after`
+-- the three promises of that plant
 pub and-keeps : (c : Call) (p q : Plant) (a : Answer) → Leaves c p a q → (plantForm p ≡ true → plantForm q ≡ true) → Leaves c p a q × ((plantForm p ≡ true → plantForm q ≡ true) × Keeps c p a q)
 and-keeps c p q a l f = (l, (f, leaves-keep c p q a l f))
 
