@@ -5,12 +5,9 @@ use native.Mathlib.Numerals.{add-one}
 use mathlib.Core.Path.{_≡_, refl, sym, _∙_, ap, subst}
 use mathlib.Core.Bool.{true}
 use mathlib.Core.List.{List, [], _∷_, _++_}
-use lib.Dec.{leb}
 use lib.IntN.{ℤ}
 use lib.ListN.{length, take, set, getD, length-set}
 use lib.Seq.{take-suc, take-suc-set, take-all}
-use borrow.Author.Tests.{leb-true, leb-false}
-use Rattle.rules.proofs.Laws.{byCase}
 use Rattle.lists.proofs.Views.{counted-length, counted-at}
 use Rattle.plant.specs.View.{plantForm, keptPlant}
 use Rattle.plant.specs.declared.Plant.{Plant}
@@ -75,10 +72,8 @@ module _ (n : ℕ) (p : Plant) (cs : List Call) (seen : List Seen) where
     pub within : i < length cs → i < listLimit
     within h = omega (arith, h, r .few)
 
-    pub running-end : length cs ≤ i → RanAll n p cs (take (length cs) seen) m
-    running-end h =
-        let e : i ≡ length cs = omega (arith, h, r .at) in
-        subst (λ (l : List Call). RanAll n p l (take (length cs) seen) m) (take-all (length cs) cs (omega arith)) (subst (λ (j : ℕ). RanAll n p (take j cs) (take j seen) m) e (r .ran))
+    pub running-end : length cs ≤ i → RanAll n p cs (take i seen) m
+    running-end h = subst (λ (l : List Call). RanAll n p l (take i seen) m) (take-all i cs h) (r .ran)
 
 -- ── the calls of a list ──
 module _ (t : Calls) (long : length (t .items) ≡ listLimit) where
@@ -92,10 +87,3 @@ module _ (t : Calls) (long : length (t .items) ≡ listLimit) where
   pub call-at : (d : Item) (i : ℕ) → i < length (viewCalls t) → getD (t .items) i d .call ≡ getD (viewCalls t) i (d .call)
   unfolding viewCalls
   call-at d i h = counted-at (λ (x : Item). x .call) (t .count) (t .items) d (d .call) i (omega (arith, h, counts)) (omega (arith, h, counts, long))
-
-  -- as many answers are taken by the count, which may be past the last
-  pub all-taken : (seen : List Seen) → length seen ≡ listLimit → take (length (viewCalls t)) seen ≡ take (t .count) seen
-  all-taken seen l =
-      byCase (leb (t .count) listLimit)
-      (λ e. let n = leb-true (t .count) listLimit e in let c : length (viewCalls t) ≡ t .count = omega (arith, counts, n) in ap (λ m. take m seen) c)
-      (λ e. let n = leb-false (t .count) listLimit e in take-all (length (viewCalls t)) seen (omega (arith, counts, n, l)) ∙ sym (take-all (t .count) seen (omega (arith, n, l))))

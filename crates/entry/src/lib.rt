@@ -15,16 +15,18 @@ use calls::Call;
 use calls::Calls;
 use plant::Plant;
 
-// What calls answered, in their order, and the plant that they leave.
+// The plant that calls leave, and what they answered, in their order: the first `count`. The count stands between the two, because the compiler
+// then moves the plant by itself, and half as often.
 pub struct Outcomes {
     pub plant: Plant,
+    pub count: usize,
     pub seen: [Seen; Calls::LIMIT],
 }
 
 // Runs calls one after the other, with so many words lent to each. The plant lies here: calls are asked where it lies and their tables are
 // written in place, because a plant that goes through a function is copied. What a read shows is kept for the cache, and not worked out again.
 pub fn run_all(mut p: Plant, calls: Calls, lent: usize) -> Outcomes
-    ensures { λ r. ⌜ RanAll lent p (viewCalls calls) (take (calls .count) (r .seen)) (r .plant) ⌝ }
+    ensures { λ r. ⌜ RanAll lent p (viewCalls calls) (take (r .count) (r .seen)) (r .plant) ⌝ }
 {
     let none = Seen::of(Answer::Done);
     let mut seen = [none; Calls::LIMIT];
@@ -142,7 +144,11 @@ pub fn run_all(mut p: Plant, calls: Calls, lent: usize) -> Outcomes
             Call::Report(_) => {}
         }
     }
-    Outcomes { plant: p, seen }
+    Outcomes {
+        plant: p,
+        count: i,
+        seen,
+    }
 }
 
 pub struct Outcome {

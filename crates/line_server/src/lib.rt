@@ -171,7 +171,7 @@ pub fn feed(s: Server, piece: &[u8], out: &mut [u8]) -> Server
         p = o.plant;
         kept = g.pending;
         used = g.used;
-        wrote += reply(calls.count as usize, seen, stop, &mut out[wrote..]);
+        wrote += reply(o.count, seen, stop, &mut out[wrote..]);
     }
     Server {
         plant: p,

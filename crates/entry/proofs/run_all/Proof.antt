@@ -18,7 +18,7 @@ use Rattle.calls.specs.declared.Call.the-variants.{Load, Map, Read, Change, Com
 use Rattle.calls.specs.declared.Item.{Item}
 use Rattle.calls.proofs.Back.{back1, back2, back4, back5, back10}
 use Rattle.entry_arms.proofs.Laws.{not-seeing}
-use Rattle.entry.proofs.RunAll.{Running, running-start, running-next, running-end, within, few-calls, call-at, all-taken}
+use Rattle.entry.proofs.RunAll.{Running, running-start, running-next, running-end, within, few-calls, call-at}
 use Rattle.entry.proofs.Asked.{Asked, asked-read, asked-other, asked-plain, Done, entered}
 use Rattle.entry.proofs.Done.{done-ended, done-nothing, done-by}
 use borrow.Author.Needs.{needs}
@@ -341,9 +341,7 @@ loop-again-17 c = done (c .before .before) _ (c .enum-told3 .given .1) _ (perfor
 
 returns : tie.Need-returns Inv-loop μ-loop
 returns c =
-    let t = c .before .before .before .before .args .t2 in
-    let r = c .before .loop .inv in
-    rw (← all-taken t (all-items (c .before .before)) (c .before .loop .seen) (r .long)) (running-end _ _ _ _ _ _ r (omega (arith, c .loop-test .left, c .before .before .len .ensures)))
+    running-end _ _ _ _ _ _ (c .before .loop .inv) (omega (arith, c .loop-test .left, c .before .before .len .ensures))
 
 pub run-all-spec : {M : Type 1} → statement M
 run-all-spec =

@@ -41,14 +41,11 @@ gather-requires c κs = c .before .before .loop .inv .within .0
 run-all-requires : tie.Need-run-all-requires Inv-loop μ-loop
 run-all-requires c κs = search needs
 
-cast-reply : tie.Need-cast-reply Inv-loop μ-loop
-cast-reply c = search needs
-
 sub-reply : tie.Need-sub-reply Inv-loop μ-loop
-sub-reply c = let f = c .before .before .before .before .before .before .before .before .before .loop .inv in search (f .within .1, f .long, needs)
+sub-reply c = let f = c .before .before .before .before .before .before .before .before .loop .inv in search (f .within .1, f .long, needs)
 
 part-reply-start : tie.Need-part-reply-start Inv-loop μ-loop
-part-reply-start c = let f = c .before .before .before .before .before .before .before .before .before .loop .inv in search (f .within .1, f .long, needs)
+part-reply-start c = let f = c .before .before .before .before .before .before .before .before .loop .inv in search (f .within .1, f .long, needs)
 
 part-reply-end : tie.Need-part-reply-end Inv-loop μ-loop
 part-reply-end c = search needs
@@ -62,19 +59,19 @@ Printed = tie.After-slice-known2 Inv-loop μ-loop
 
 -- where there was room for an answer, and what the server was there
 abbrev begun : Printed → tie.Else1 Inv-loop μ-loop
-begun c = c .before .before .before .before .before .before .before .before .before .before .before
+begun c = c .before .before .before .before .before .before .before .before .before .before
 
 abbrev server : Printed → Server
 server c = at (begun c .before .before .loop .p) (begun c .before .before .loop .kept) (begun c .before .before .loop .used) (begun c .before .before .loop .wrote)
 
 abbrev gathered : Printed → Gathered
-gathered c = c .before .before .before .before .before .before .before .before .before .before .gather .result
+gathered c = c .before .before .before .before .before .before .before .before .before .gather .result
 
 abbrev outcomes : Printed → Outcomes
-outcomes c = c .before .before .before .before .before .before .before .before .run-all .result
+outcomes c = c .before .before .before .before .before .before .before .run-all .result
 
 abbrev seen : Printed → List Seen
-seen c = take (gathered c .calls .count) (outcomes c .seen)
+seen c = take (outcomes c .count) (outcomes c .seen)
 
 abbrev piece : Printed → List ℕ
 piece c = begun c .before .before .before .before .before .before .before .args .piece .now
@@ -88,16 +85,16 @@ ready c = let f = begun c .before .before .loop .inv in (begun c .before .loop-t
 add-wrote : tie.Need-add-wrote Inv-loop μ-loop
 add-wrote c =
     let g = begun c .before .before .before .before .before .before .before .good .1 .1 .0 in
-    record { fits = omega (arith, more-wrote (server c) (piece c) (out c) (ready c) (gathered c) (c .before .before .before .before .before .before .before .before .before .before .gather .ensures) (seen c) (outcomes c .plant) (c .before .before .before .before .before .before .before .before .run-all .ensures) [] _ (c .before .before .reply .ensures .0), begun c .before .before .loop .inv .long, g .0, g .1) }
+    record { fits = omega (arith, more-wrote (server c) (piece c) (out c) (ready c) (gathered c) (c .before .before .before .before .before .before .before .before .before .gather .ensures) (seen c) (outcomes c .plant) (c .before .before .before .before .before .before .before .run-all .ensures) [] _ (c .before .before .reply .ensures .0), begun c .before .before .loop .inv .long, g .0, g .1) }
 
 loop-less : tie.Need-loop-less Inv-loop μ-loop
 loop-less c =
-    let u = used-further (server c) (piece c) (out c) (ready c) (gathered c) (c .before .before .before .before .before .before .before .before .before .before .gather .ensures) (seen c) (outcomes c .plant) (c .before .before .before .before .before .before .before .before .run-all .ensures) [] 0 in
-    omega (arith, u, c .before .before .before .before .before .before .before .before .before .before .gather .ensures .within .1)
+    let u = used-further (server c) (piece c) (out c) (ready c) (gathered c) (c .before .before .before .before .before .before .before .before .before .gather .ensures) (seen c) (outcomes c .plant) (c .before .before .before .before .before .before .before .run-all .ensures) [] 0 in
+    omega (arith, u, c .before .before .before .before .before .before .before .before .before .gather .ensures .within .1)
 
 loop-again : tie.Need-loop-again Inv-loop μ-loop
 loop-again c =
-    feed-batch (server c) (piece c) (out c) (ready c) (gathered c) (c .before .before .before .before .before .before .before .before .before .before .gather .ensures) (seen c) (outcomes c .plant) (c .before .before .before .before .before .before .before .before .run-all .ensures) _ (c .before .before .reply .result) (c .before .before .reply .ensures .1) _ _ (begun c .before .before .loop .inv)
+    feed-batch (server c) (piece c) (out c) (ready c) (gathered c) (c .before .before .before .before .before .before .before .before .before .gather .ensures) (seen c) (outcomes c .plant) (c .before .before .before .before .before .before .before .run-all .ensures) _ (c .before .before .reply .result) (c .before .before .reply .ensures .1) _ _ (begun c .before .before .loop .inv)
     (search (c .before .out .given, c .slice-known2 .given, c .before .before .reply, needs)) (c .before .before .reply .ensures .0)
 
 same-length-2 : tie.Need-same-length-2 Inv-loop μ-loop
@@ -120,7 +117,6 @@ feed-spec =
     returns
     gather-requires
     run-all-requires
-    cast-reply
     sub-reply
     part-reply-start
     part-reply-end
