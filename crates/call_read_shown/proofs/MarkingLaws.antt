@@ -44,10 +44,10 @@ use Rattle.call_read_shown.specs.Fields.{workedFields, byMark, shownFiel
 
 -- ── worked out ──
 module _ (near : Bool) (store : S.Stock) (keys : ℕ → List S.Place) (cache : List M.Cached) (buffer : List M.Batch) (rows : List ℕ) (own : List Update) (qs : List S.Place) (k : ℕ) where
-  pub worked-near : (t r : Cached) → near ≡ true → viewCached t ≡ record { key = k; fields = map store qs }
+  pub worked-near : (t r : Cached) → near ≡ true → viewCached t .fields ≡ map store qs
       → ((s : S.Stock) → viewCached t .fields ≡ map s qs → viewCached r ≡ record { key = k; fields = map (follow (follow s (changesIn (pending rows buffer))) own) qs })
       → viewCached r ≡ record { key = k; fields = map (valueBy near store keys cache buffer rows own) qs }
-  worked-near t r h et e = e store (ap (λ (x : M.Cached). x .fields) et) ∙ rw h refl
+  worked-near t r h et e = e store et ∙ rw h refl
 
   pub worked-away : (r : Cached) → near ≡ false → viewCached r ≡ record { key = k; fields = map (seenAway keys cache buffer own) qs }
       → viewCached r ≡ record { key = k; fields = map (valueBy near store keys cache buffer rows own) qs }

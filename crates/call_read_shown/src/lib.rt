@@ -4,6 +4,7 @@ pub mod values;
 ghost use mathlib.Core.Path.{_≡_};
 ghost use mathlib.Core.Bool.{true};
 ghost use mathlib.Core.List.{map};
+ghost use Rattle.rules.specs.Values.{Stock};
 ghost use Rattle.rules.specs.Effects.{evicted, cacheBy};
 ghost use Rattle.rules.specs.Effects as E;
 ghost use Rattle.keys.specs.View.{viewKey, viewKeys};
@@ -49,10 +50,22 @@ impl Marked {
     }
 }
 
-// The fields of the key's places, worked out: without a look at the store where it is away.
+// The store's fields at the places of the key where it is near: looked up here and not where they are worked out, because a store that is handed
+// on is copied.
+fn stored(near: bool, store: Store, key: Key, k: u8) -> Cached
+    ensures shows { λ r. ⌜ (near ≡ true → viewCached r .fields ≡ map (viewStore store) (viewKey key)) ⌝ }
+    ensures form { λ r. ⌜ (storeForm store ≡ true → cachedForm r ≡ true) ⌝ }
+{
+    if near {
+        return values::stored(store, key, k);
+    }
+    Cached::of(k)
+}
+
+// The fields of the key's places, worked out from the store's: without these where it is away.
 fn worked(
     near: bool,
-    store: Store,
+    stored: Cached,
     keys: Keys,
     cache: Cache,
     buffer: Buffer,
@@ -61,11 +74,10 @@ fn worked(
     key: Key,
     k: u8,
 ) -> Cached
-    ensures shows { λ r. ⌜ viewCached r ≡ record { key = k; fields = map (valueBy near (viewStore store) (viewKeys keys) (viewCache cache) (viewBuffer buffer) (viewRows rows) (viewChanges own)) (viewKey key) } ⌝ }
-    ensures form { λ r. ⌜ (storeForm store ≡ true → cacheForm cache ≡ true → cachedForm r ≡ true) ⌝ }
+    ensures shows { λ r. ⌜ ((s : Stock) → (near ≡ true → viewCached stored .fields ≡ map s (viewKey key)) → viewCached r ≡ record { key = k; fields = map (valueBy near s (viewKeys keys) (viewCache cache) (viewBuffer buffer) (viewRows rows) (viewChanges own)) (viewKey key) }) ⌝ }
+    ensures form { λ r. ⌜ (cachedForm stored ≡ true → cacheForm cache ≡ true → cachedForm r ≡ true) ⌝ }
 {
     if near {
-        let stored = values::stored(store, key, k);
         return values::near(stored, rows, buffer, own, key, k);
     }
     values::away(keys, cache, buffer, own, key, k)
@@ -100,7 +112,8 @@ pub fn shown(
             };
         }
     }
-    let fields = worked(near, store, keys, cache, buffer, rows, own, key, k);
+    let stored = stored(near, store, key, k);
+    let fields = worked(near, stored, keys, cache, buffer, rows, own, key, k);
     if touched {
         return Marked {
             mark: Mark::OwnChange,
