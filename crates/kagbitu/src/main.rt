@@ -15,6 +15,15 @@ use line_server::Server;
 use part::Part;
 use transfer::Transfer;
 
+// Bytes read at a time: so few that they are still at hand when their lines are served.
+const PIECE: usize = 16384;
+
+fn piece_buffer() -> [u8; PIECE]
+    ensures { λ r. ⌜ 16384 ≡ length r ⌝ }
+{
+    [0; PIECE]
+}
+
 fn read(piece: &mut [u8]) -> Transfer
     ensures { λ r. ⌜ CameTo (length (now (piece .entry))) r ⌝ }
 {
@@ -106,7 +115,7 @@ fn serve(server: Server, part: Part, piece: &[u8], out: &mut [u8]) -> Turn
 // waited for. A proved loop has to end, and nothing says that input does: so the turns are counted down, and the tries that read nothing yet,
 // from a number that no run uses up.
 fn main() {
-    let mut piece = io::large_buffer();
+    let mut piece = piece_buffer();
     let mut out = io::large_buffer();
     let mut server = Server::start();
     let mut part = Part::first(0);

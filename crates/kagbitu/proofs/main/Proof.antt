@@ -15,16 +15,16 @@ use Rattle.kagbitu.proofs.main.Tie as tie
 
 abbrev Inv-loop : tie.InvT-loop
 Inv-loop piece₀ out₀ server₀ part₀ turns₀ tries₀ piece out server part turns tries =
-    SomeRun server₀ (turns₀ - turns) server (unused part piece) × (Started server₀ × (Inside part piece × ((65536 ≡ length piece) × ((65536 ≡ length out) × (turns ≤ turns₀)))))
+    SomeRun server₀ (turns₀ - turns) server (unused part piece) × (Started server₀ × (Inside part piece × ((16384 ≡ length piece) × ((65536 ≡ length out) × (turns ≤ turns₀)))))
 
 abbrev μ-loop : tie.MeasureT-loop
 μ-loop piece₀ out₀ server₀ part₀ turns₀ tries₀ piece out server part turns tries = turns + tries
 
+piece-buffer-requires : tie.Need-piece-buffer-requires Inv-loop μ-loop
+piece-buffer-requires c κs = search needs
+
 large-buffer-requires : tie.Need-large-buffer-requires Inv-loop μ-loop
 large-buffer-requires c κs = search needs
-
-large-buffer-requires-2 : tie.Need-large-buffer-requires-2 Inv-loop μ-loop
-large-buffer-requires-2 c κs = search needs
 
 start-requires : tie.Need-start-requires Inv-loop μ-loop
 start-requires c κs = search needs
@@ -35,7 +35,7 @@ first-requires c κs = search needs
 loop-holds : tie.Need-loop-holds Inv-loop μ-loop
 loop-holds c =
     let s = c .before .start .ensures in (
-      ran-none _ _ (c .first .result) (c .before .before .before .large-buffer .result) (omega arith) (omega arith),
+      ran-none _ _ (c .first .result) (c .before .before .before .piece-buffer .result) (omega arith) (omega arith),
       (
         record { shows = s .0; empty = s .1 .0; kept = s .1 .1 },
         ((omega arith, omega arith), (search needs, (search needs, omega arith))),
@@ -181,8 +181,8 @@ main-spec =
     (tie.spec
     Inv-loop
     μ-loop
+    piece-buffer-requires
     large-buffer-requires
-    large-buffer-requires-2
     start-requires
     first-requires
     loop-holds
