@@ -1,3 +1,2 @@
 -- Laws of calls as values.
 pub mod Back
-pub mod Full

@@ -2,7 +2,6 @@
 // And calls one after the other, as a list.
 ghost use mathlib.Core.Path.{_≡_};
 ghost use mathlib.Core.List.{[]};
-ghost use lib.Dec.{leb};
 ghost use lib.ListN.{length};
 ghost use Rattle.rules.specs.Lists.{pushed};
 ghost use Rattle.calls.specs.View.{viewCalls, listLimit};
@@ -72,12 +71,6 @@ impl Calls {
             return Calls::LIMIT;
         }
         n
-    }
-
-    pub fn is_full(self) -> bool
-        ensures { λ r. ⌜ r ≡ leb listLimit (length (viewCalls self)) ⌝ }
-    {
-        Calls::LIMIT <= self.count as usize
     }
 
     // One more, if there is room.
