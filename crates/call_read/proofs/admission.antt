@@ -1,2 +1,2 @@
 -- Laws of who is turned away from a read.
-pub mod TurningLaws
+pub mod AdmissionLaws

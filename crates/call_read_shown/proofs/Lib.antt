@@ -1,3 +1,3 @@
 -- Laws of what a read shows and caches.
-pub mod MarkingLaws
+pub mod MarkedLaws
 pub mod Kept

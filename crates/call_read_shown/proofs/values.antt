@@ -1,2 +1,2 @@
 -- Laws of what a read shows.
-pub mod ShowingLaws
+pub mod ValuesLaws

@@ -15,7 +15,7 @@ use line_server::Server;
 use part::Part;
 use transfer::Transfer;
 
-// Bytes read at a time: so few that they are still at hand when their lines are served.
+// Bytes read at a time: a quarter of the room for answers, because calls are run together only as far as there is room for the longest answer to each.
 const PIECE: usize = 16384;
 
 fn piece_buffer() -> [u8; PIECE]

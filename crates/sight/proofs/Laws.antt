@@ -9,7 +9,7 @@ use Rattle.rules.specs.Changes.{Update, run}
 use Rattle.rules.specs.Tables.{Cached, Batch, pending, changesIn}
 use Rattle.rules.specs.Reading.{seen, seenAway, known}
 use Rattle.rules.proofs.Away.{value-is}
-use Rattle.sight.proofs.ReadingLaws.{seen-is}
+use Rattle.sight.proofs.SeenLaws.{seen-is}
 use Rattle.plant.specs.View.{viewPlant, keptPlant}
 use Rattle.plant.specs.declared.Plant.{Plant}
 use Rattle.plant.proofs.PlantLaws.{kept-parts}

@@ -1,3 +1,3 @@
 -- Laws of what a session sees.
 pub mod Laws
-pub mod ReadingLaws
+pub mod SeenLaws

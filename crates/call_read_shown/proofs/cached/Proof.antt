@@ -1,6 +1,6 @@
 -- `cached` meets its contract.
 use borrow.Author.Needs.{needs}
-use Rattle.call_read_shown.proofs.MarkingLaws.{caches-one, caches-none, caches-own}
+use Rattle.call_read_shown.proofs.MarkedLaws.{caches-one, caches-none, caches-own}
 use Rattle.call_read_shown.proofs.cached.Statement.{statement}
 use Rattle.call_read_shown.proofs.cached.Tie as tie
 

@@ -4,7 +4,7 @@ use borrow.Author.Tests.{not-true, not-false}
 use mathlib.Core.Path.{sym, _∙_}
 use mathlib.Core.Bool.{true≢false}
 use mathlib.Core.Logic.{⊎-elim}
-use Rattle.call_read_shown.proofs.MarkingLaws.{marks-own, shows-own, marks-cached, shows-cached, marks-now, shows-now}
+use Rattle.call_read_shown.proofs.MarkedLaws.{marks-own, shows-own, marks-cached, shows-cached, marks-now, shows-now}
 use Rattle.call_read_shown.proofs.shown.Statement.{statement}
 use Rattle.call_read_shown.proofs.shown.Tie as tie
 

@@ -1,6 +1,6 @@
 -- `with_room` meets its contract.
 use borrow.Author.Needs.{needs}
-use Rattle.call_read_shown.proofs.MarkingLaws.{gives-way, has-room}
+use Rattle.call_read_shown.proofs.MarkedLaws.{gives-way, has-room}
 use Rattle.call_read_shown.proofs.with_room.Statement.{statement}
 use Rattle.call_read_shown.proofs.with_room.Tie as tie
 

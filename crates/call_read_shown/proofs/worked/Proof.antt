@@ -5,7 +5,7 @@ use Rattle.rows.specs.View.{viewRows}
 use Rattle.buffer.specs.View.{viewBuffer}
 use Rattle.cache.specs.View.{viewCache}
 use borrow.Author.Needs.{needs}
-use Rattle.call_read_shown.proofs.MarkingLaws.{worked-near, worked-away}
+use Rattle.call_read_shown.proofs.MarkedLaws.{worked-near, worked-away}
 use Rattle.call_read_shown.proofs.worked.Statement.{statement}
 use Rattle.call_read_shown.proofs.worked.Tie as tie
 

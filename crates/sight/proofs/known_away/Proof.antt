@@ -1,6 +1,6 @@
 -- `known_away` meets its contract.
 use borrow.Author.Needs.{needs}
-use Rattle.sight.proofs.ReadingLaws.{known-cached, known-buffered, known-own}
+use Rattle.sight.proofs.SeenLaws.{known-cached, known-buffered, known-own}
 use Rattle.sight.proofs.known_away.Statement.{statement}
 use Rattle.sight.proofs.known_away.Tie as tie
 

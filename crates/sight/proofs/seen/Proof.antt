@@ -1,6 +1,6 @@
 -- `seen` meets its contract.
 use borrow.Author.Needs.{needs}
-use Rattle.sight.proofs.ReadingLaws.{run-from}
+use Rattle.sight.proofs.SeenLaws.{run-from}
 use Rattle.sight.proofs.seen.Statement.{statement}
 use Rattle.sight.proofs.seen.Tie as tie
 

@@ -1,6 +1,6 @@
 -- `seen_away` meets its contract.
 use borrow.Author.Needs.{needs}
-use Rattle.sight.proofs.ReadingLaws.{seen-own, seen-shown}
+use Rattle.sight.proofs.SeenLaws.{seen-own, seen-shown}
 use Rattle.sight.proofs.seen_away.Statement.{statement}
 use Rattle.sight.proofs.seen_away.Tie as tie
 

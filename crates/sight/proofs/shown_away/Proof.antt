@@ -1,6 +1,6 @@
 -- `shown_away` meets its contract.
 use borrow.Author.Needs.{needs}
-use Rattle.sight.proofs.ReadingLaws.{shown-buffered, shown-cached}
+use Rattle.sight.proofs.SeenLaws.{shown-buffered, shown-cached}
 use Rattle.sight.proofs.shown_away.Statement.{statement}
 use Rattle.sight.proofs.shown_away.Tie as tie
 

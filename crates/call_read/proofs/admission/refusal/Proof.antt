@@ -1,6 +1,6 @@
 -- `refusal` meets its contract.
 use borrow.Author.Needs.{needs}
-use Rattle.call_read.proofs.admission.TurningLaws.{out-of-range, turned, undefined, few-words, elsewhere, is-near, away, known}
+use Rattle.call_read.proofs.admission.AdmissionLaws.{out-of-range, turned, undefined, few-words, elsewhere, is-near, away, known}
 use Rattle.call_read.proofs.admission.refusal.Statement.{statement}
 use Rattle.call_read.proofs.admission.refusal.Tie as tie
 

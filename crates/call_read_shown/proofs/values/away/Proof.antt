@@ -11,7 +11,7 @@ use Rattle.cache.specs.cached.Form.{cachedForm}
 use Rattle.cache.specs.View.{viewCache}
 use Rattle.cache.specs.Form.{cacheForm}
 use Rattle.lists.proofs.Loops.{length-mapped}
-use Rattle.call_read_shown.proofs.values.ShowingLaws.{Filling, fill-start, fill-next, fill-end}
+use Rattle.call_read_shown.proofs.values.ValuesLaws.{Filling, fill-start, fill-next, fill-end}
 use Rattle.call_read_shown.proofs.values.away.Statement.{statement}
 use Rattle.call_read_shown.proofs.values.away.Tie as tie
 

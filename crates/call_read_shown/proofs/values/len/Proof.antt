@@ -1,6 +1,6 @@
 -- `len` meets its contract.
 use Rattle.lists.proofs.Loops.{length-mapped}
-use Rattle.call_read_shown.proofs.values.ShowingLaws.{len-over, len-few}
+use Rattle.call_read_shown.proofs.values.ValuesLaws.{len-over, len-few}
 use borrow.Author.Needs.{needs}
 use Rattle.call_read_shown.proofs.values.len.Statement.{statement}
 use Rattle.call_read_shown.proofs.values.len.Tie as tie

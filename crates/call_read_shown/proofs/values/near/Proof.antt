@@ -16,8 +16,8 @@ use Rattle.buffer.specs.View.{viewBuffer}
 use Rattle.cache.specs.cached.View.{viewCached}
 use Rattle.cache.specs.cached.Form.{cachedForm}
 use Rattle.lists.proofs.Loops.{length-mapped}
-use Rattle.sight.proofs.ReadingLaws.{seen-is}
-use Rattle.call_read_shown.proofs.values.ShowingLaws.{Filling, few-places, fill-start, fill-next, fill-end, stored-at, any-form}
+use Rattle.sight.proofs.SeenLaws.{seen-is}
+use Rattle.call_read_shown.proofs.values.ValuesLaws.{Filling, few-places, fill-start, fill-next, fill-end, stored-at, any-form}
 use Rattle.call_read_shown.proofs.values.near.Statement.{statement}
 use Rattle.call_read_shown.proofs.values.near.Tie as tie
 

@@ -6,7 +6,7 @@ use mathlib.Core.Bool.{true}
 use Rattle.store.specs.View.{viewStore, storeForm}
 use Rattle.cache.specs.cached.Form.{cachedForm}
 use Rattle.lists.proofs.Loops.{length-mapped}
-use Rattle.call_read_shown.proofs.values.ShowingLaws.{Filling, fill-start, fill-next, fill-end}
+use Rattle.call_read_shown.proofs.values.ValuesLaws.{Filling, fill-start, fill-next, fill-end}
 use Rattle.call_read_shown.proofs.values.stored.Statement.{statement}
 use Rattle.call_read_shown.proofs.values.stored.Tie as tie
 

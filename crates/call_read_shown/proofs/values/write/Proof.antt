@@ -4,7 +4,7 @@ use Prim.Native.Nat.{_-_}
 use native.Mathlib.Omega.{arith}
 use Rattle.lists.proofs.Loops.{length-mapped}
 use Rattle.cache.specs.cached.View.{viewCached}
-use Rattle.call_read_shown.proofs.values.ShowingLaws.{Showing, too-few, show-start, words-length, show-next, show-end}
+use Rattle.call_read_shown.proofs.values.ValuesLaws.{Showing, too-few, show-start, words-length, show-next, show-end}
 use Rattle.call_read_shown.proofs.values.write.Statement.{statement}
 use Rattle.call_read_shown.proofs.values.write.Tie as tie
 

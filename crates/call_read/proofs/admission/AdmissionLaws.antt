@@ -13,6 +13,7 @@ use Rattle.rules.specs.Tables as M
 use Rattle.rules.specs.Reading.{knownAway}
 use Rattle.rules.specs.Calls.{Read, Answer, refused, fine}
 use Rattle.rules.specs.Conditions.{conditions}
+use Rattle.lists.proofs.Indexed.{any-false}
 use Rattle.keys.specs.View.{viewKey, viewKeys}
 use Rattle.keys.specs.declared.Keys.{Keys}
 use Rattle.keys.specs.declared.Key.{Key}
@@ -30,10 +31,6 @@ use Rattle.answers.specs.declared.Answer as D
 use Rattle.caller.specs.Standing.{Judges}
 use Rattle.caller.proofs.Standing.{turned-first, is-open}
 use Rattle.sight.specs.Sight.{sightAway}
-
-nobody : {A : Type 0} (l : List A) → any (λ a. false) l ≡ false
-nobody [] = refl
-nobody (a ∷ l) = nobody l
 
 module _ (near : Bool) (keys : Keys) (cache : Cache) (sessions : Sessions) (buffer : Buffer) (n k : ℕ) (words : List ℤ) where
   abbrev Turned : Answer → Type 0
@@ -77,7 +74,7 @@ module _ (near : Bool) (keys : Keys) (cache : Cache) (sessions : Sessions) (buff
             module _ (v : x ≡ false) where
               pub is-near : near ≡ true → Turned (fine [])
               unfolding conditions sightAway _⇒_
-              is-near o = rw (lt-ltb k keyCount h, has, live, sym ek, sym eb, u, sym el, sym em, le-ltb lent (wordsPerField * m) w, sym ex, v, o, nobody (viewKey key)) refl
+              is-near o = rw (lt-ltb k keyCount h, has, live, sym ek, sym eb, u, sym el, sym em, le-ltb lent (wordsPerField * m) w, sym ex, v, o, any-false (λ q. false) (λ q. refl) (viewKey key)) refl
 
               module _ (o : near ≡ false) (y : Bool) (ey : y ≡ any (λ q. not (knownAway (viewKeys keys) (viewCache cache) (viewBuffer buffer) (viewChanges (s .changes)) q)) (viewKey key)) where
                 pub away : y ≡ true → Turned (refused storeAway)
