@@ -25,7 +25,7 @@ use Rattle.call_read.specs.Shows.{Shows, Found, filled}
 use Rattle.call_read.specs.declared.Seen.{Seen}
 use Rattle.call_read.proofs.Filled.{refused-leaves, own-leaves}
 use Rattle.entry.specs.Refused.{RefusalLeaves}
-use Rattle.entry_arms.specs.Plain.{isPlain}
+use Rattle.entry_parts.specs.Plain.{isPlain}
 use Rattle.entry.specs.RanAll.{Entered}
 use Rattle.entry.proofs.Laws.{ran}
 

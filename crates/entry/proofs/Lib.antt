@@ -5,3 +5,4 @@ mod Done
 pub mod RunAll
 pub mod Demand3
 pub mod Demands
+pub mod Listed

@@ -4,3 +4,4 @@ pub mod Refused
 pub mod RanAll
 pub mod Demand3
 pub mod Demands
+pub mod Listed

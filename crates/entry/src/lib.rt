@@ -1,7 +1,7 @@
 // The one entry: any call, on the plant, with words lent to it, or calls one after the other.
 ghost use mathlib.Core.Path.{_≡_};
 ghost use mathlib.Core.Bool.{true};
-ghost use lib.ListN.{take};
+ghost use lib.ListN.{length, take};
 ghost use Rattle.plant.specs.View.{plantForm, keptPlant};
 ghost use Rattle.answers.specs.View.{viewAnswer, isRefused};
 ghost use Rattle.answers.specs.Own.{isAnswerOf};
@@ -26,7 +26,8 @@ pub struct Outcomes {
 // Runs calls one after the other, with so many words lent to each. The plant lies here: calls are asked where it lies and their tables are
 // written in place, because a plant that goes through a function is copied. What a read shows is kept for the cache, and not worked out again.
 pub fn run_all(mut p: Plant, calls: Calls, lent: usize) -> Outcomes
-    ensures { λ r. ⌜ RanAll lent p (viewCalls calls) (take (r .count) (r .seen)) (r .plant) ⌝ }
+    ensures runs { λ r. ⌜ RanAll lent p (viewCalls calls) (take (r .count) (r .seen)) (r .plant) ⌝ }
+    ensures counts { λ r. ⌜ r .count ≡ length (viewCalls calls) ⌝ }
 {
     let none = Seen::of(Answer::Done);
     let mut seen = [none; Calls::LIMIT];
@@ -38,13 +39,13 @@ pub fn run_all(mut p: Plant, calls: Calls, lent: usize) -> Outcomes
         let o = match c {
             Call::Read(s, k) => call_read::found(p, s, k, lent),
             Call::Change(s, d, f, k, v) => Seen::of(call_change::answer(p, s, d, f, k, v)),
-            _ => Seen::of(entry_arms::plain(p, c)),
+            _ => Seen::of(entry_parts::plain(p, c)),
         };
         seen[i] = o;
         i += 1;
         let a = o.answer;
         if a.ends_session() {
-            let sessions = entry_arms::ended(p, c);
+            let sessions = entry_parts::ended(p, c);
             p.sessions = sessions;
             continue;
         }

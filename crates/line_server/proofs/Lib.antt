@@ -1,5 +1,5 @@
 -- The proofs of the server.
 mod Gathering
 mod Laws
-mod Batch
+mod Joined
 pub mod Input

@@ -37,7 +37,7 @@ returns c =
     let all = c .before .before .before .before .before in
     let given = all .before .before .before .args in
     let one = all .before .push .ensures ∙ first _ (given .c) (all .before .before .none .ensures .0) in
-    promised _ _ (given .p) _ _ (ran-one _ (given .p) _ _ one (all .run-all .result .count) (all .run-all .result .seen) (all .run-all .result .plant) (all .run-all .ensures) _ (now (given .words)) refl) _
+    promised _ _ (given .p) _ _ (ran-one _ (given .p) _ _ one (all .run-all .result .count) (all .run-all .result .seen) (all .run-all .result .plant) (all .run-all .ensures .0) _ (now (given .words)) refl) _
     (c .before .before .fill .ensures)
 
 pub run-spec : {M : Type 1} → statement M

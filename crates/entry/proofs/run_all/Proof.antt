@@ -17,7 +17,7 @@ use Rattle.calls.specs.declared.Call.{Call}
 use Rattle.calls.specs.declared.Call.the-variants.{Load, Map, Read, Change, Commit, Abandon, Advance, Take, Apply, Delete, Cut, Store}
 use Rattle.calls.specs.declared.Item.{Item}
 use Rattle.calls.proofs.Back.{back1, back2, back4, back5, back10}
-use Rattle.entry_arms.proofs.Laws.{not-seeing}
+use Rattle.entry_parts.proofs.Laws.{not-seeing}
 use Rattle.entry.proofs.RunAll.{Running, running-start, running-next, running-end, within, few-calls, call-at}
 use Rattle.entry.proofs.Asked.{Asked, asked-read, asked-other, asked-plain, Done, entered}
 use Rattle.entry.proofs.Done.{done-ended, done-nothing, done-by}
@@ -341,7 +341,9 @@ loop-again-17 c = done (c .before .before) _ (c .enum-told3 .given .1) _ (perfor
 
 returns : tie.Need-returns Inv-loop μ-loop
 returns c =
-    running-end _ _ _ _ _ _ (c .before .loop .inv) (omega (arith, c .loop-test .left, c .before .before .len .ensures))
+    let r = c .before .loop .inv in
+    let l = c .before .before .len .ensures in
+    (running-end _ _ _ _ _ _ r (omega (arith, c .loop-test .left, l)), omega (arith, c .loop-test .left, l, r .at))
 
 pub run-all-spec : {M : Type 1} → statement M
 run-all-spec =

@@ -10,7 +10,7 @@ use Rattle.line_server.specs.Fed.{Ready}
 use Rattle.line_server.specs.declared.Gathered.{Gathered}
 use Rattle.line_server.specs.declared.Server.{Server}
 use Rattle.line_server.proofs.Laws.{Feeding, at, feed-start, feed-end}
-use Rattle.line_server.proofs.Batch.{feed-batch, used-further, more-wrote}
+use Rattle.line_server.proofs.Joined.{feed-batch, used-further, more-wrote}
 use Rattle.line_server.proofs.feed.Statement.{statement}
 use Rattle.line_server.proofs.feed.Tie as tie
 
@@ -85,16 +85,16 @@ ready c = let f = begun c .before .before .loop .inv in (begun c .before .loop-t
 add-wrote : tie.Need-add-wrote Inv-loop μ-loop
 add-wrote c =
     let g = begun c .before .before .before .before .before .before .before .good .1 .1 .0 in
-    record { fits = omega (arith, more-wrote (server c) (piece c) (out c) (ready c) (gathered c) (c .before .before .before .before .before .before .before .before .before .gather .ensures) (seen c) (outcomes c .plant) (c .before .before .before .before .before .before .before .run-all .ensures) [] _ (c .before .before .reply .ensures .0), begun c .before .before .loop .inv .long, g .0, g .1) }
+    record { fits = omega (arith, more-wrote (server c) (piece c) (out c) (ready c) (gathered c) (c .before .before .before .before .before .before .before .before .before .gather .ensures) (seen c) (outcomes c .plant) (c .before .before .before .before .before .before .before .run-all .ensures .0) [] _ (c .before .before .reply .ensures .0), begun c .before .before .loop .inv .long, g .0, g .1) }
 
 loop-less : tie.Need-loop-less Inv-loop μ-loop
 loop-less c =
-    let u = used-further (server c) (piece c) (out c) (ready c) (gathered c) (c .before .before .before .before .before .before .before .before .before .gather .ensures) (seen c) (outcomes c .plant) (c .before .before .before .before .before .before .before .run-all .ensures) [] 0 in
+    let u = used-further (server c) (piece c) (out c) (ready c) (gathered c) (c .before .before .before .before .before .before .before .before .before .gather .ensures) (seen c) (outcomes c .plant) (c .before .before .before .before .before .before .before .run-all .ensures .0) [] 0 in
     omega (arith, u, c .before .before .before .before .before .before .before .before .before .gather .ensures .within .1)
 
 loop-again : tie.Need-loop-again Inv-loop μ-loop
 loop-again c =
-    feed-batch (server c) (piece c) (out c) (ready c) (gathered c) (c .before .before .before .before .before .before .before .before .before .gather .ensures) (seen c) (outcomes c .plant) (c .before .before .before .before .before .before .before .run-all .ensures) _ (c .before .before .reply .result) (c .before .before .reply .ensures .1) _ _ (begun c .before .before .loop .inv)
+    feed-batch (server c) (piece c) (out c) (ready c) (gathered c) (c .before .before .before .before .before .before .before .before .before .gather .ensures) (seen c) (outcomes c .plant) (c .before .before .before .before .before .before .before .run-all .ensures .0) _ (c .before .before .reply .result) (c .before .before .reply .ensures .1) _ _ (begun c .before .before .loop .inv)
     (search (c .before .out .given, c .slice-known2 .given, c .before .before .reply, needs)) (c .before .before .reply .ensures .0)
 
 same-length-2 : tie.Need-same-length-2 Inv-loop μ-loop

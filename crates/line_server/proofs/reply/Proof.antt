@@ -1,7 +1,7 @@
 -- `reply` meets its contract.
 use lib.ListN.{take}
 use borrow.Author.Needs.{needs}
-use Rattle.line_server.proofs.Batch.{reply-none, reply-refused}
+use Rattle.line_server.proofs.Joined.{reply-none, reply-refused}
 use Rattle.line_server.proofs.reply.Statement.{statement}
 use Rattle.line_server.proofs.reply.Tie as tie
 

@@ -19,7 +19,7 @@ use Rattle.plant.specs.declared.Plant.{Plant}
 use Rattle.answers.specs.Own.{isAnswerOf}
 use Rattle.answers.specs.declared.Answer.{Answer}
 use Rattle.promises.specs.Promise.{Answers}
-use Rattle.entry_arms.specs.Plain.{isPlain}
+use Rattle.entry_parts.specs.Plain.{isPlain}
 
 -- ── which calls are plain ──
 abbrev seeing : List ℕ

@@ -10,7 +10,7 @@ ghost use Rattle.plant.specs.View.{viewPlant, keptPlant, plantForm};
 ghost use Rattle.plant.specs.With.{withSessions};
 ghost use Rattle.answers.specs.Own.{isAnswerOf};
 ghost use Rattle.promises.specs.Promise.{Answers};
-ghost use Rattle.entry_arms.specs.Plain.{isPlain};
+ghost use Rattle.entry_parts.specs.Plain.{isPlain};
 use answers::Answer;
 use calls::Call;
 use plant::Plant;

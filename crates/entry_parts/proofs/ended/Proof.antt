@@ -1,10 +1,10 @@
 -- `ended` meets its contract.
 use Rattle.calls.proofs.Back.{back1, back2, back5}
-use Rattle.entry_arms.proofs.Laws.{ends-it, ends-none}
+use Rattle.entry_parts.proofs.Laws.{ends-it, ends-none}
 use Rattle.calls.specs.declared.Call.the-variants.{Read, Change, Commit, Abandon, Report}
 use borrow.Author.Needs.{needs}
-use Rattle.entry_arms.proofs.ended.Statement.{statement}
-use Rattle.entry_arms.proofs.ended.Tie as tie
+use Rattle.entry_parts.proofs.ended.Statement.{statement}
+use Rattle.entry_parts.proofs.ended.Tie as tie
 
 enum-known-c : tie.Need-enum-known-c
 enum-known-c c = search needs

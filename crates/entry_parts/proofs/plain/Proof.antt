@@ -1,11 +1,11 @@
 -- `plain` meets its contract.
 use Rattle.calls.proofs.Back.{back1, back2, back4, back10}
 use Rattle.answers.specs.declared.Answer.the-variants.{Done}
-use Rattle.entry_arms.proofs.Laws.{plainly, not-plain}
+use Rattle.entry_parts.proofs.Laws.{plainly, not-plain}
 use Rattle.calls.specs.declared.Call.the-variants.{Load, Map, Commit, Abandon, Advance, Take, Apply, Delete, Cut, Store, Report}
 use borrow.Author.Needs.{needs}
-use Rattle.entry_arms.proofs.plain.Statement.{statement}
-use Rattle.entry_arms.proofs.plain.Tie as tie
+use Rattle.entry_parts.proofs.plain.Statement.{statement}
+use Rattle.entry_parts.proofs.plain.Tie as tie
 
 enum-known-c : tie.Need-enum-known-c
 enum-known-c c = search needs
