@@ -1,2 +1,2 @@
--- Calls as the rules see them.
+-- Calls as the rules see them, and lists of calls.
 pub mod View

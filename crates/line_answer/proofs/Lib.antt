@@ -1,2 +1,2 @@
--- The proofs of serving.
+-- Laws of answers that are printed.
 pub mod Laws

@@ -1,2 +1,2 @@
--- What serving a line promises.
+-- What printing an answer promises.
 pub mod Answered

@@ -75,7 +75,7 @@ struct Gathered {
     stop: Stop,
 }
 
-// The calls that the piece's lines say from a position on: no more than there is room for answers, and up to a line that says none.
+// The calls that the piece's lines say from a position on: no more than a list holds or than there is room for answers, and up to a line that says none.
 fn gather(first: Pending, piece: &[u8], from: usize, room: usize) -> Gathered
     requires { ⌜ from ≤ length (now piece) ⌝ }
     ensures { λ r. ⌜ Gathers first (now (piece .entry)) from room r ⌝ }
