@@ -16,8 +16,8 @@ use calls::Call;
 use plant::Plant;
 use sessions::Sessions;
 
-// The answer of a call that does not ask what a session sees. None of these hands a table on, so the plant is not copied on its way through here. Read and
-// change do, so a loop that owns the plant asks them directly.
+// The answer of a call that does not ask what a session sees. None of these hands on a larger table than the sessions, so the plant is not copied on its way
+// through here. Read and change do, so a loop that owns the plant asks them directly.
 pub fn plain(p: Plant, c: Call) -> Answer
     ensures answers { λ r. ⌜ (isPlain c ≡ true → (lent : List ℤ) → Answers (viewCall c) lent p r) ⌝ }
     ensures own { λ r. ⌜ (isPlain c ≡ true → isAnswerOf (viewCall c) r ≡ true) ⌝ }
