@@ -1,7 +1,4 @@
-// The line format: its bytes and widths, each by the name that it has in `specs/Bytes`, and the lesser of two lengths; the definitions are in `specs/`.
-ghost use mathlib.Core.Path.{_≡_};
-ghost use Prim.Native.Nat.{min};
-
+// The line format: its bytes and widths, each by the name that it has in `specs/Bytes`; the definitions are in `specs/`.
 pub const NEWLINE: u8 = 10;
 
 pub const SPACE: u8 = 32;
@@ -26,12 +23,3 @@ pub const MOST_NUMBERS: usize = 10;
 
 // Bytes of a line that tell what it says: those of the longest line in form, and one more, which tells that a line is too long.
 pub const LINE_LIMIT: usize = CALL_WIDTH + MOST_NUMBERS * NUMBER_WIDTH + 1;
-
-pub fn lesser(a: usize, b: usize) -> usize
-    ensures { λ r. ⌜ r ≡ min a b ⌝ }
-{
-    if a < b {
-        return a;
-    }
-    b
-}

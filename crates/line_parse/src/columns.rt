@@ -119,7 +119,7 @@ pub fn number_at(line: &[u8], at: usize) -> Number
     if len < at {
         return Number::Broken;
     }
-    let end = at + line_format::lesser(NUMBER_WIDTH, len - at);
+    let end = at + lists::lesser(NUMBER_WIDTH, len - at);
     integer(&line[at..end])
 }
 

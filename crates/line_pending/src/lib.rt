@@ -12,11 +12,11 @@ ghost use Rattle.line_pending.specs.View.{viewPending, pendingForm, endF
 fn taken(size: usize, from: usize, to: usize, room: usize) -> usize
     ensures { λ r. ⌜ r ≡ min room (min to size - from) ⌝ }
 {
-    let end = line_format::lesser(to, size);
+    let end = lists::lesser(to, size);
     if end <= from {
         return 0;
     }
-    line_format::lesser(room, end - from)
+    lists::lesser(room, end - from)
 }
 
 // The first bytes of a line: one more than the longest line in form has, which tells that a line is too long.
@@ -52,7 +52,7 @@ impl Pending {
         ensures shows { λ r. ⌜ viewPending r ≡ take lineLimit (viewPending self ++ between from to (now (piece .entry))) ⌝ }
         ensures form { λ r. ⌜ pendingForm r ≡ true ⌝ }
     {
-        let at = line_format::lesser(self.len as usize, Pending::LIMIT);
+        let at = lists::lesser(self.len as usize, Pending::LIMIT);
         let n = taken(piece.len(), from, to, Pending::LIMIT - at);
         let mut j: usize = 0;
         while j < n {
