@@ -35,7 +35,6 @@ use Rattle.changes.specs.View.{viewChanges, viewUpdate}
 use Rattle.changes.specs.declared.Changes.{Changes}
 use Rattle.changes.specs.declared.Update.{Update}
 use Rattle.sessions.specs.session.View.{viewSession}
-use Rattle.sessions.specs.declared.session.Session.{Session}
 use Rattle.sessions.specs.View.{viewSessions}
 use Rattle.sessions.specs.declared.Sessions.{Sessions}
 use Rattle.store.specs.View.{viewStore}
@@ -54,6 +53,7 @@ use Rattle.answers.specs.declared.Refusal as D
 use Rattle.promises.specs.Promise.{chosen, result}
 use Rattle.promises.proofs.Telling.{refuses, answers-by}
 use Rattle.arguments.specs.change.View.{refusalAt}
+use Rattle.caller.specs.declared.Caller.{Caller}
 use Rattle.caller.specs.Standing.{standing, Judges}
 use Rattle.caller.proofs.Standing.{Asks, turned-first, is-open, its-number, its-session, turned, stands}
 use Rattle.sight.specs.Value.{valueBy, value}
@@ -156,7 +156,7 @@ module _ (p : Plant) (z d f k v : ℤ) (fd : SFits w64 d) (ff : SFits w64 f) (fk
   found-out h = rw (sym good-is, eq-eqb (c .kind) 0 h) refl
 
   module _ (h : c .kind ≡ 0 → ⊥) (fz : SFits w64 z) (n : ℕ) (e : n ≡ sessionNumber (held z))
-      (s : Session) (es : viewSession s ≡ M.session n (viewSessions (p .sessions))) (w : Answer) (ew : Judges (p .sessions) n s w) (t : Bool) (et : t ≡ isRefused (viewAnswer w)) where
+      (who : Caller) (j : Judges (p .sessions) n who) (t : Bool) (et : t ≡ isRefused (viewAnswer (who .refusal))) where
     abbrev changes : ℕ → List C.Update
     changes i = M.session i (viewSessions (p .sessions)) .changes
 
@@ -170,15 +170,15 @@ module _ (p : Plant) (z d f k v : ℤ) (fd : SFits w64 d) (ff : SFits w64 f) (fk
     unfolding foundAnswer sightAway
     at-number a h = h ∙ ap Told (session-is z fz n e)
 
-    pub found-turned : t ≡ true → Found (viewAnswer w)
+    pub found-turned : t ≡ true → Found (viewAnswer (who .refusal))
     unfolding _⇒_
-    found-turned g = at-number (viewAnswer w) (rw (good h) (turned-first (p .sessions) n s es w ew t et g (later n) (suc (length (changes n)) ∷ [])))
+    found-turned g = at-number (viewAnswer (who .refusal)) (rw (good h) (turned-first (p .sessions) n who j t et g (later n) (suc (length (changes n)) ∷ [])))
 
-    pub found-later : t ≡ false → (r : A.Answer) → r ≡ laterAnswer (sight (p .near) (p .store) (p .keys) (p .cache) (p .sessions) (p .buffer) (p .rows)) n (viewChanges (s .changes)) (viewUpdate c) → p .near ≡ false → Found r
+    pub found-later : t ≡ false → (r : A.Answer) → r ≡ laterAnswer (sight (p .near) (p .store) (p .keys) (p .cache) (p .sessions) (p .buffer) (p .rows)) n (viewChanges (who .session .changes)) (viewUpdate c) → p .near ≡ false → Found r
     unfolding laterAnswer sight sightAway viewSession _⇒_
     found-later g r er a =
-        let o = is-open (p .sessions) n s es w ew t et g in
-        let mine : changes n ≡ viewChanges (s .changes) = ap (λ (x : M.Session). x .changes) (sym es) in
+        let o = is-open (p .sessions) n who j t et g in
+        let mine : changes n ≡ viewChanges (who .session .changes) = ap (λ (x : M.Session). x .changes) (sym (j .shows)) in
         at-number r (er ∙ rw (good h, o .0, o .1, mine, a, update-is (good h)) refl)
 
   module _ (lent : List ℤ) (kept : keptPlant p ≡ true) where
@@ -190,13 +190,13 @@ module _ (p : Plant) (z d f k v : ℤ) (fd : SFits w64 d) (ff : SFits w64 f) (fk
     out-of-range h = refuses (Change z d f k v) lent (chosen (viewPlant p)) (viewPlant p) _ (rw (sym good-is, eq-eqb (c .kind) 0 h) refl)
 
     module _ (h : c .kind ≡ 0 → ⊥) (fz : SFits w64 z) (n : ℕ) (e : n ≡ sessionNumber (held z))
-        (s : Session) (es : viewSession s ≡ M.session n (viewSessions (p .sessions))) (w : Answer) (ew : Judges (p .sessions) n s w) (t : Bool) (et : t ≡ isRefused (viewAnswer w)) where
+        (who : Caller) (j : Judges (p .sessions) n who) (t : Bool) (et : t ≡ isRefused (viewAnswer (who .refusal))) where
       asks : Asks (λ i. Change i d f k v) (λ i q. conditionsBy (seen q (own i q) (placeOf d f)) q (natOf i) (own i q) (updateOf (placeOf d f) (natOf k) v))
       unfolding conditions _⇒_
       asks = record { first-two = λ i l q. rw (good h) refl }
 
-      pub turned-away : t ≡ true → Answered (viewAnswer w)
-      turned-away = turned asks p kept z fz n e s es w ew t et lent
+      pub turned-away : t ≡ true → Answered (viewAnswer (who .refusal))
+      turned-away = turned asks p kept z fz n e who j t et lent
 
       at-place : inRange (placeOf d f) ≡ true
       at-place =
@@ -205,18 +205,18 @@ module _ (p : Plant) (z d f k v : ℤ) (fd : SFits w64 d) (ff : SFits w64 f) (fk
           both _ _ (lt-ltb (natOf d) documentCount (below-is d documentCount (y .0))) (lt-ltb (natOf f) fieldCount (below-is f fieldCount (y .1)))
 
       module _ (g : t ≡ false) where
-        own-is : own z (viewPlant p) ≡ viewChanges (s .changes)
+        own-is : own z (viewPlant p) ≡ viewChanges (who .session .changes)
         unfolding viewSession viewPlant
-        own-is = ap (λ (x : M.Session). x .changes) (its-session p kept z fz n e s es w ew t et g)
+        own-is = ap (λ (x : M.Session). x .changes) (its-session p kept z fz n e who j t et g)
 
-        pub meeting : (r : Answer) → viewAnswer r ≡ laterAnswer (sight (p .near) (p .store) (p .keys) (p .cache) (p .sessions) (p .buffer) (p .rows)) n (viewChanges (s .changes)) (viewUpdate c) → Answered (viewAnswer r)
+        pub meeting : (r : Answer) → viewAnswer r ≡ laterAnswer (sight (p .near) (p .store) (p .keys) (p .cache) (p .sessions) (p .buffer) (p .rows)) n (viewChanges (who .session .changes)) (viewUpdate c) → Answered (viewAnswer r)
         unfolding viewPlant accepted laterAnswer
         meeting r er =
             er
-            ∙ same-answer p n (viewChanges (s .changes)) (viewUpdate c)
-            ∙ answers-by (Change z d f k v) lent (chosen (viewPlant p)) (viewPlant p) (suc (length (viewChanges (s .changes))) ∷ []) (rw own-is refl)
-            (first (laterConditions (viewPlant p) n (viewChanges (s .changes)) (viewUpdate c)))
-            (stands asks p kept z fz n e s es w ew t et lent g
-            ∙ rw (own-is, its-number p kept z fz n e s es w ew t et g, update-is (good h))
-            (as-seen p kept (viewChanges (s .changes)) (updateOf (placeOf d f) (natOf k) v) at-place
-            (leb changeLimit (length (viewChanges (s .changes))) ⇒ changesFull) (M.othersExclusive n (natOf d) (viewSessions (p .sessions)) ⇒ exclusiveElsewhere)))
+            ∙ same-answer p n (viewChanges (who .session .changes)) (viewUpdate c)
+            ∙ answers-by (Change z d f k v) lent (chosen (viewPlant p)) (viewPlant p) (suc (length (viewChanges (who .session .changes))) ∷ []) (rw own-is refl)
+            (first (laterConditions (viewPlant p) n (viewChanges (who .session .changes)) (viewUpdate c)))
+            (stands asks p kept z fz n e who j t et lent g
+            ∙ rw (own-is, its-number p kept z fz n e who j t et g, update-is (good h))
+            (as-seen p kept (viewChanges (who .session .changes)) (updateOf (placeOf d f) (natOf k) v) at-place
+            (leb changeLimit (length (viewChanges (who .session .changes))) ⇒ changesFull) (M.othersExclusive n (natOf d) (viewSessions (p .sessions)) ⇒ exclusiveElsewhere)))

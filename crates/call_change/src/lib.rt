@@ -99,11 +99,12 @@ pub fn answer(p: Plant, session: i64, document: i64, field: i64, kind: i64, valu
         return Answer::Refused(Refusal::OutOfRange);
     }
     let n = arguments::session(session);
-    let s = sessions.session(n);
-    let turned = caller::refusal(sessions, n, s);
+    let who = caller::of(sessions, n);
+    let turned = who.refusal;
     if turned.is_refused() {
         return turned;
     }
+    let s = who.session;
     later(
         p.near,
         p.store,

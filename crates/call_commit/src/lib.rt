@@ -40,11 +40,12 @@ pub fn answer(p: Plant, session: i64) -> Answer
 {
     let n = arguments::session(session);
     let sessions = p.sessions;
-    let s = sessions.session(n);
-    let turned = caller::refusal(sessions, n, s);
+    let who = caller::of(sessions, n);
+    let turned = who.refusal;
     if turned.is_refused() {
         return turned;
     }
+    let s = who.session;
     let count = p.buffer.len();
     if s.changes.is_empty() {
         return Answer::Committed(count);

@@ -75,11 +75,12 @@ pub fn refusal(
     if Keys::LIMIT <= k as usize {
         return Answer::Refused(Refusal::OutOfRange);
     }
-    let s = sessions.session(n);
-    let turned = caller::refusal(sessions, n, s);
+    let who = caller::of(sessions, n);
+    let turned = who.refusal;
     if turned.is_refused() {
         return turned;
     }
+    let s = who.session;
     let key = keys.key(k);
     if key.is_empty() {
         return Answer::Refused(Refusal::KeyUndefined);

@@ -15,11 +15,12 @@ pub fn answer(p: Plant, session: i64) -> Answer
 {
     let n = arguments::session(session);
     let sessions = p.sessions;
-    let s = sessions.session(n);
-    let turned = caller::refusal(sessions, n, s);
+    let who = caller::of(sessions, n);
+    let turned = who.refusal;
     if turned.is_refused() {
         return turned;
     }
+    let s = who.session;
     let shared = s.shared_count();
     let exclusive = s.exclusive_count();
     let changes = s.changes.len();

@@ -1,4 +1,4 @@
--- Whether a session may call, one law for each way out of `refusal`, and what a call of a session learns by it.
+-- Whether a session may call, one law for each way out of `of`, and what a call of a session learns by it.
 use mathlib.Core.Path.{_≡_, refl, sym, _∙_, ap}
 use mathlib.Core.Bool.{Bool, true, false, not, true≢false}
 use mathlib.Core.Option.{Option, none, some}
@@ -8,12 +8,11 @@ use lib.Dec.{eqb}
 use lib.IntN.{ℤ}
 use mir.Syntax.{w64}
 use mir.Val.{SFits}
-use borrow.Author.Tests.{not-false}
+use borrow.Author.Tests.{not-true}
 use Rattle.rules.specs.Values.{natOf}
 use Rattle.rules.specs.Refusals.{Refusal, noSlot, wasDoomed, first, _⇒_}
 use Rattle.rules.specs.Tables as M
-use Rattle.rules.specs.Calls.{Call, refused, fine}
-use Rattle.rules.specs.Calls as C
+use Rattle.rules.specs.Calls.{Call}
 use Rattle.rules.specs.Conditions.{sessionAt, conditions}
 use Rattle.rules.proofs.Laws.{byCase}
 use Rattle.arguments.specs.Numbers.{sessionNumber}
@@ -27,43 +26,42 @@ use Rattle.plant.specs.declared.Plant.{Plant}
 use Rattle.plant.proofs.PlantLaws.{kept-parts}
 use Rattle.answers.specs.View.{viewAnswer, answerBy, isRefused}
 use Rattle.answers.specs.declared.Answer.{Answer}
+use Rattle.answers.specs.declared.Answer.the-variants as answer
+use Rattle.answers.specs.declared.Refusal.the-variants as refusal
 use Rattle.promises.specs.Promise.{chosen, result}
 use Rattle.promises.proofs.Telling.{refuses-by}
 use Rattle.promises.proofs.Numbers.{slot-is, number-is}
 use Rattle.caller.specs.Standing.{standing, Judges}
+use Rattle.caller.specs.declared.Caller.{Caller}
 
--- ── the ways out of `refusal` ──
--- what is found for a number without a slot is doomed
-absent-doomed : (n : ℕ) (l : List M.Slot) → M.session n l .doomed ≡ false → M.hasSlot n l ≡ true
-absent-doomed n [] d = absurd (true≢false d)
-absent-doomed n (x ∷ l) d = byCase (eqb n (x .number)) (λ b. rw b refl) (λ b. rw b (absent-doomed n l (rw b at d)))
+-- ── the ways out of `of` ──
+absent : (n : ℕ) (l : List M.Slot) → M.hasSlot n l ≡ false → M.session n l ≡ M.doomedSession
+absent n [] h = refl
+absent n (x ∷ l) h = byCase (eqb n (x .number)) (λ b. absurd (true≢false (rw b at h))) (λ b. rw b (absent n l (rw b at h)))
 
-module _ (t : Sessions) (n : ℕ) (s : Session) (d : Bool) (ed : d ≡ viewSlot s .session .doomed) (es : viewSession s ≡ M.session n (viewSessions t)) where
-  abbrev Judged : C.Answer → Type 0
-  Judged a = a ≡ answerBy (first (standing n (viewSessions t))) []
+module _ (t : Sessions) (n : ℕ) (s : Session) (h : Bool) (eh : h ≡ M.hasSlot n (viewSessions t)) where
+  abbrev Judged : Answer → Type 0
+  Judged a = Judges t n (record { refusal = a; session = s })
 
-  doomed-is : M.session n (viewSessions t) .doomed ≡ d
-  unfolding viewSlot
-  doomed-is = ap (λ (x : M.Session). x .doomed) (sym es) ∙ sym ed
-
-  pub may-call : not d ≡ true → Judged (fine [])
+  pub has-none : not h ≡ true → viewSession s ≡ M.doomedSession → Judged (answer.Refused refusal.NoSlot)
   unfolding _⇒_
-  may-call g =
-      let live : M.session n (viewSessions t) .doomed ≡ false = doomed-is ∙ not-true d g in
-      rw (live, absent-doomed n (viewSessions t) live) refl
-    where
-      not-true : (b : Bool) → not b ≡ true → b ≡ false
-      not-true true e = absurd (true≢false (sym e))
-      not-true false e = refl
+  has-none g es = record {
+    shows = es ∙ sym (absent n (viewSessions t) (sym eh ∙ not-true h g));
+    refuses = rw (sym eh, g) refl;
+  }
 
-  module _ (h : Bool) (eh : h ≡ M.hasSlot n (viewSessions t)) where
-    pub has-none : not h ≡ true → Judged (refused noSlot)
-    unfolding _⇒_
-    has-none g = rw (sym eh, g) refl
+  module _ (g : not h ≡ false) (es : viewSession s ≡ M.session n (viewSessions t)) (d : Bool) (ed : d ≡ viewSlot s .session .doomed) where
+    doomed-is : M.session n (viewSessions t) .doomed ≡ d
+    unfolding viewSlot
+    doomed-is = ap (λ (x : M.Session). x .doomed) (sym es) ∙ sym ed
 
-    pub was-doomed : not d ≡ false → not h ≡ false → Judged (refused wasDoomed)
+    pub was-doomed : d ≡ true → Judged (answer.Refused refusal.WasDoomed)
     unfolding _⇒_
-    was-doomed i g = rw (sym eh, g, doomed-is, not-false d i) refl
+    was-doomed i = record { shows = es; refuses = rw (sym eh, g, doomed-is, i) refl }
+
+    pub may-call : d ≡ false → Judged answer.Done
+    unfolding _⇒_
+    may-call i = record { shows = es; refuses = rw (sym eh, g, doomed-is, i) refl }
 
 -- ── what a call learns ──
 none-refuses : (b d : Bool) → isRefused (answerBy (first ((not b ⇒ noSlot) ∷ (d ⇒ wasDoomed) ∷ [])) []) ≡ false → (b ≡ true) × (d ≡ false)
@@ -77,13 +75,13 @@ one-refuses none none l ns e = absurd (true≢false (sym e))
 one-refuses none (some r) l ns e = refl
 one-refuses (some r) y l ns e = refl
 
-module _ (t : Sessions) (n : ℕ) (s : Session) (es : viewSession s ≡ M.session n (viewSessions t)) (a : Answer) (ea : Judges t n s a) (r : Bool) (er : r ≡ isRefused (viewAnswer a)) where
+module _ (t : Sessions) (n : ℕ) (who : Caller) (j : Judges t n who) (r : Bool) (er : r ≡ isRefused (viewAnswer (who .refusal))) where
   judged : isRefused (answerBy (first (standing n (viewSessions t))) []) ≡ r
-  judged = ap isRefused (sym (ea es)) ∙ sym er
+  judged = ap isRefused (sym (j .refuses)) ∙ sym er
 
   -- whatever conditions come after
-  pub turned-first : r ≡ true → (later : List (Option Refusal)) (ns : List ℕ) → viewAnswer a ≡ answerBy (first (standing n (viewSessions t) ++ later)) ns
-  turned-first h later ns = ea es ∙ one-refuses (not (M.hasSlot n (viewSessions t)) ⇒ noSlot) (M.session n (viewSessions t) .doomed ⇒ wasDoomed) later ns (judged ∙ h)
+  pub turned-first : r ≡ true → (later : List (Option Refusal)) (ns : List ℕ) → viewAnswer (who .refusal) ≡ answerBy (first (standing n (viewSessions t) ++ later)) ns
+  turned-first h later ns = j .refuses ∙ one-refuses (not (M.hasSlot n (viewSessions t)) ⇒ noSlot) (M.session n (viewSessions t) .doomed ⇒ wasDoomed) later ns (judged ∙ h)
 
   pub is-open : r ≡ false → (M.hasSlot n (viewSessions t) ≡ true) × (M.session n (viewSessions t) .doomed ≡ false)
   is-open h = none-refuses (M.hasSlot n (viewSessions t)) (M.session n (viewSessions t) .doomed) (judged ∙ h)
@@ -105,25 +103,25 @@ pub record Asks (c : ℤ → Call) (later : ℤ → M.Plant → List (Option Ref
       → first (conditions (c z) lent p) ≡ first ((not (M.isSlot z (p .slots)) ⇒ noSlot) ∷ (sessionAt z p .doomed ⇒ wasDoomed) ∷ later z p)
 
 module _ (p : Plant) (k : keptPlant p ≡ true) (z : ℤ) (fits : SFits w64 z) (n : ℕ) (e : n ≡ sessionNumber (held z))
-    (s : Session) (es : viewSession s ≡ M.session n (viewSessions (p .sessions))) (a : Answer) (ea : Judges (p .sessions) n s a) (r : Bool) (er : r ≡ isRefused (viewAnswer a)) where
+    (who : Caller) (j : Judges (p .sessions) n who) (r : Bool) (er : r ≡ isRefused (viewAnswer (who .refusal))) where
   pub its-number : r ≡ false → natOf z ≡ n
   unfolding viewPlant
-  its-number h = number-is (viewPlant p) (kept-parts p k) z fits n e (is-open (p .sessions) n s es a ea r er h .0)
+  its-number h = number-is (viewPlant p) (kept-parts p k) z fits n e (is-open (p .sessions) n who j r er h .0)
 
-  pub its-session : r ≡ false → M.session (natOf z) (viewSessions (p .sessions)) ≡ viewSession s
-  its-session h = ap (λ (m : ℕ). M.session m (viewSessions (p .sessions))) (its-number h) ∙ sym es
+  pub its-session : r ≡ false → M.session (natOf z) (viewSessions (p .sessions)) ≡ viewSession (who .session)
+  its-session h = ap (λ (m : ℕ). M.session m (viewSessions (p .sessions))) (its-number h) ∙ sym (j .shows)
 
 module _ {c : ℤ → Call} {later : ℤ → M.Plant → List (Option Refusal)} (asks : Asks c later) (p : Plant) (k : keptPlant p ≡ true) (z : ℤ) (fits : SFits w64 z) (n : ℕ) (e : n ≡ sessionNumber (held z))
-    (s : Session) (es : viewSession s ≡ M.session n (viewSessions (p .sessions))) (a : Answer) (ea : Judges (p .sessions) n s a) (r : Bool) (er : r ≡ isRefused (viewAnswer a)) (lent : List ℤ) where
+    (who : Caller) (j : Judges (p .sessions) n who) (r : Bool) (er : r ≡ isRefused (viewAnswer (who .refusal))) (lent : List ℤ) where
   asked : first (conditions (c z) lent (viewPlant p)) ≡ first (standing n (viewSessions (p .sessions)) ++ later z (viewPlant p))
   unfolding viewPlant
   asked = asks .first-two z lent (viewPlant p) ∙ same-standing p k z fits n e (later z (viewPlant p))
 
-  pub turned : r ≡ true → viewAnswer a ≡ result (c z) lent p .answer
+  pub turned : r ≡ true → viewAnswer (who .refusal) ≡ result (c z) lent p .answer
   turned h =
-      let q = turned-first (p .sessions) n s es a ea r er h (later z (viewPlant p)) [] in
+      let q = turned-first (p .sessions) n who j r er h (later z (viewPlant p)) [] in
       q ∙ refuses-by (c z) lent (chosen (viewPlant p)) (viewPlant p) [] (first (standing n (viewSessions (p .sessions)) ++ later z (viewPlant p))) (ap isRefused (sym q) ∙ sym er ∙ h) asked
 
   pub stands : r ≡ false → first (conditions (c z) lent (viewPlant p)) ≡ first (later z (viewPlant p))
   unfolding _⇒_
-  stands h = let o = is-open (p .sessions) n s es a ea r er h in asked ∙ rw (o .0, o .1) refl
+  stands h = let o = is-open (p .sessions) n who j r er h in asked ∙ rw (o .0, o .1) refl

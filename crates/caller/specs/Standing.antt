@@ -7,15 +7,15 @@ use mathlib.Core.List.{List, [], _∷_}
 use Rattle.rules.specs.Refusals.{Refusal, noSlot, wasDoomed, _⇒_, first}
 use Rattle.rules.specs.Tables.{Slot, hasSlot, session}
 use Rattle.sessions.specs.session.View.{viewSession}
-use Rattle.sessions.specs.declared.session.Session.{Session}
 use Rattle.sessions.specs.View.{viewSessions}
 use Rattle.sessions.specs.declared.Sessions.{Sessions}
 use Rattle.answers.specs.View.{viewAnswer, answerBy}
-use Rattle.answers.specs.declared.Answer.{Answer}
+use Rattle.caller.specs.declared.Caller.{Caller}
 
 abbrev pub standing : ℕ → List Slot → List (Option Refusal)
 standing n slots = (not (hasSlot n slots) ⇒ noSlot) ∷ (session n slots .doomed ⇒ wasDoomed) ∷ []
 
--- where s is that session, a is the refusal that it meets by them, or that there is none
-abbrev pub Judges : Sessions → ℕ → Session → Answer → Type 0
-Judges sessions n s a = viewSession s ≡ session n (viewSessions sessions) → viewAnswer a ≡ answerBy (first (standing n (viewSessions sessions))) []
+-- of who calls: the session that has the number, and the refusal that it meets by them, or that there is none
+pub record Judges (sessions : Sessions) (n : ℕ) (c : Caller) : Type 0 where
+  pub shows : viewSession (c .session) ≡ session n (viewSessions sessions)
+  pub refuses : viewAnswer (c .refusal) ≡ answerBy (first (standing n (viewSessions sessions))) []

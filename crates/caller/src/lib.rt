@@ -13,17 +13,34 @@ use plant::Plant;
 use sessions::Sessions;
 use sessions::session::Session;
 
-// The refusal of a call of session n by conditions 2 and 3, or `Done` where there is none. s is the session of that number: where none has it, a doomed one.
-pub fn refusal(sessions: Sessions, n: u32, s: Session) -> Answer
-    ensures { λ r. ⌜ Judges sessions n s r ⌝ }
+// A session that makes a call, and the refusal that it meets by conditions 2 and 3, or `Done` where there is none.
+pub struct Caller {
+    pub refusal: Answer,
+    pub session: Session,
+}
+
+// Who calls as session n. The slot is asked for first, because looking the session up copies the table.
+pub fn of(sessions: Sessions, n: u32) -> Caller
+    ensures { λ r. ⌜ Judges sessions n r ⌝ }
 {
-    if !s.is_doomed() {
-        return Answer::Done;
-    }
     if !sessions.has(n) {
-        return Answer::Refused(Refusal::NoSlot);
+        let session = Session::empty();
+        return Caller {
+            refusal: Answer::Refused(Refusal::NoSlot),
+            session,
+        };
     }
-    Answer::Refused(Refusal::WasDoomed)
+    let session = sessions.session(n);
+    if session.is_doomed() {
+        return Caller {
+            refusal: Answer::Refused(Refusal::WasDoomed),
+            session,
+        };
+    }
+    Caller {
+        refusal: Answer::Done,
+        session,
+    }
 }
 
 // The end of a session: its slot is free, and what it held and changed is gone.

@@ -15,23 +15,20 @@ returns c = (λ h. search (found-out, needs), (search (out-of-range, needs), ref
 session-requires : tie.Need-session-requires
 session-requires c κs = search needs
 
-session-requires-2 : tie.Need-session-requires-2
-session-requires-2 c κs = search needs
-
-refusal-requires : tie.Need-refusal-requires
-refusal-requires c κs = search needs
+of-requires : tie.Need-of-requires
+of-requires c κs = search needs
 
 is-refused-requires : tie.Need-is-refused-requires
 is-refused-requires c κs = search needs
 
 returns-2 : tie.Need-returns-2
-returns-2 c = (λ h. search (found-turned, c .before .before .refusal .ensures, needs), (search (turned-away, c .before .before .refusal .ensures, needs), search (own-refusal, needs)))
+returns-2 c = (λ h. search (found-turned, needs), (search (turned-away, needs), search (own-refusal, needs)))
 
 later-requires : tie.Need-later-requires
 later-requires c κs = search needs
 
 returns-3 : tie.Need-returns-3
-returns-3 c = (λ h. search (found-later, c .before .before .before .refusal .ensures, needs), (search (meeting, c .before .before .before .refusal .ensures, needs), c .later .ensures .1 _ _ _ _ _))
+returns-3 c = (λ h. search (found-later, needs), (search (meeting, needs), c .later .ensures .1 _ _ _ _ _))
 
 pub answer-spec : {M : Type 1} → statement M
 answer-spec =
@@ -40,8 +37,7 @@ answer-spec =
     update-requires
     returns
     session-requires
-    session-requires-2
-    refusal-requires
+    of-requires
     is-refused-requires
     returns-2
     later-requires

@@ -9,17 +9,14 @@ use Rattle.call_commit.proofs.answer.Tie as tie
 session-requires : tie.Need-session-requires
 session-requires c κs = search needs
 
-session-requires-2 : tie.Need-session-requires-2
-session-requires-2 c κs = search needs
-
-refusal-requires : tie.Need-refusal-requires
-refusal-requires c κs = search needs
+of-requires : tie.Need-of-requires
+of-requires c κs = search needs
 
 is-refused-requires : tie.Need-is-refused-requires
 is-refused-requires c κs = search needs
 
 returns : tie.Need-returns
-returns c = (search (turned asks, c .before .before .refusal .ensures, needs), search (own-refusal, needs))
+returns c = (search (turned asks, needs), search (own-refusal, needs))
 
 len-requires : tie.Need-len-requires
 len-requires c κs = search needs
@@ -28,27 +25,26 @@ is-empty-requires : tie.Need-is-empty-requires
 is-empty-requires c κs = search needs
 
 returns-2 : tie.Need-returns-2
-returns-2 c = search (nothing-changed, stands asks, its-session, c .before .before .before .before .before .refusal .ensures, needs)
+returns-2 c = search (nothing-changed, stands asks, its-session, needs)
 
 cast-if3 : tie.Need-cast-if3
 cast-if3 c = search needs
 
 returns-3 : tie.Need-returns-3
-returns-3 c = search (full, stands asks, its-session, c .before .before .before .before .before .before .refusal .ensures, needs)
+returns-3 c = search (full, stands asks, its-session, needs)
 
-add-t13 : tie.Need-add-t13
-add-t13 c = search needs
+add-t14 : tie.Need-add-t14
+add-t14 c = search needs
 
 returns-4 : tie.Need-returns-4
-returns-4 c = search (buffers, stands asks, its-session, c .before .before .before .before .before .before .refusal .ensures, needs)
+returns-4 c = search (buffers, stands asks, its-session, needs)
 
 pub answer-spec : {M : Type 1} → statement M
 answer-spec =
     tie.close
     (tie.spec
     session-requires
-    session-requires-2
-    refusal-requires
+    of-requires
     is-refused-requires
     returns
     len-requires
@@ -56,5 +52,5 @@ answer-spec =
     returns-2
     cast-if3
     returns-3
-    add-t13
+    add-t14
     returns-4)

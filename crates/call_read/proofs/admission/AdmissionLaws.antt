@@ -19,7 +19,6 @@ use Rattle.keys.specs.declared.Keys.{Keys}
 use Rattle.keys.specs.declared.Key.{Key}
 use Rattle.changes.specs.View.{viewChanges}
 use Rattle.sessions.specs.session.View.{viewSession}
-use Rattle.sessions.specs.declared.session.Session.{Session}
 use Rattle.sessions.specs.View.{viewSessions}
 use Rattle.sessions.specs.declared.Sessions.{Sessions}
 use Rattle.buffer.specs.View.{viewBuffer}
@@ -27,7 +26,7 @@ use Rattle.buffer.specs.declared.Buffer.{Buffer}
 use Rattle.cache.specs.View.{viewCache}
 use Rattle.cache.specs.declared.Cache.{Cache}
 use Rattle.answers.specs.View.{viewAnswer, answerBy, isRefused}
-use Rattle.answers.specs.declared.Answer as D
+use Rattle.caller.specs.declared.Caller.{Caller}
 use Rattle.caller.specs.Standing.{Judges}
 use Rattle.caller.proofs.Standing.{turned-first, is-open}
 use Rattle.sight.specs.Sight.{sightAway}
@@ -40,21 +39,21 @@ module _ (near : Bool) (keys : Keys) (cache : Cache) (sessions : Sessions) (buff
   unfolding conditions sightAway _⇒_
   out-of-range h = rw (le-ltb k keyCount h) refl
 
-  module _ (h : k < keyCount) (s : Session) (es : viewSession s ≡ M.session n (viewSessions sessions)) (a : D.Answer) (ea : Judges sessions n s a) (t : Bool) (et : t ≡ isRefused (viewAnswer a)) where
-    pub turned : t ≡ true → Turned (viewAnswer a)
+  module _ (h : k < keyCount) (who : Caller) (j : Judges sessions n who) (t : Bool) (et : t ≡ isRefused (viewAnswer (who .refusal))) where
+    pub turned : t ≡ true → Turned (viewAnswer (who .refusal))
     unfolding conditions sightAway _⇒_
-    turned g = rw (lt-ltb k keyCount h) (turned-first sessions n s es a ea t et g (drop 3 (conditions (Read (pos n) (pos k)) words (sightAway near keys cache sessions buffer))) [])
+    turned g = rw (lt-ltb k keyCount h) (turned-first sessions n who j t et g (drop 3 (conditions (Read (pos n) (pos k)) words (sightAway near keys cache sessions buffer))) [])
 
     module _ (g : t ≡ false) where
       has : M.hasSlot n (viewSessions sessions) ≡ true
-      has = is-open sessions n s es a ea t et g .0
+      has = is-open sessions n who j t et g .0
 
       live : M.session n (viewSessions sessions) .doomed ≡ false
-      live = is-open sessions n s es a ea t et g .1
+      live = is-open sessions n who j t et g .1
 
-      own-is : M.session n (viewSessions sessions) .changes ≡ viewChanges (s .changes)
+      own-is : M.session n (viewSessions sessions) .changes ≡ viewChanges (who .session .changes)
       unfolding viewSession
-      own-is = ap (λ (x : M.Session). x .changes) (sym es)
+      own-is = ap (λ (x : M.Session). x .changes) (sym (j .shows))
 
       module _ (key : Key) (ek : viewKey key ≡ viewKeys keys k) (b : Bool) (eb : b ≡ isEmpty (viewKey key)) where
         pub undefined : b ≡ true → Turned (refused keyUndefined)
@@ -76,7 +75,7 @@ module _ (near : Bool) (keys : Keys) (cache : Cache) (sessions : Sessions) (buff
               unfolding conditions sightAway _⇒_
               is-near o = rw (lt-ltb k keyCount h, has, live, sym ek, sym eb, u, sym el, sym em, le-ltb lent (wordsPerField * m) w, sym ex, v, o, any-false (λ q. false) (λ q. refl) (viewKey key)) refl
 
-              module _ (o : near ≡ false) (y : Bool) (ey : y ≡ any (λ q. not (knownAway (viewKeys keys) (viewCache cache) (viewBuffer buffer) (viewChanges (s .changes)) q)) (viewKey key)) where
+              module _ (o : near ≡ false) (y : Bool) (ey : y ≡ any (λ q. not (knownAway (viewKeys keys) (viewCache cache) (viewBuffer buffer) (viewChanges (who .session .changes)) q)) (viewKey key)) where
                 pub away : y ≡ true → Turned (refused storeAway)
                 unfolding conditions sightAway _⇒_
                 away i = rw (lt-ltb k keyCount h, has, live, sym ek, sym eb, u, sym el, sym em, le-ltb lent (wordsPerField * m) w, sym ex, v, o, own-is, sym ey, i) refl

@@ -9,17 +9,14 @@ use Rattle.call_report.proofs.answer.Tie as tie
 session-requires : tie.Need-session-requires
 session-requires c κs = search needs
 
-session-requires-2 : tie.Need-session-requires-2
-session-requires-2 c κs = search needs
-
-refusal-requires : tie.Need-refusal-requires
-refusal-requires c κs = search needs
+of-requires : tie.Need-of-requires
+of-requires c κs = search needs
 
 is-refused-requires : tie.Need-is-refused-requires
 is-refused-requires c κs = search needs
 
 returns : tie.Need-returns
-returns c = (search (turned asks, c .before .before .refusal .ensures, needs), search (own-refusal, needs))
+returns c = (search (turned asks, needs), search (own-refusal, needs))
 
 shared-count-requires : tie.Need-shared-count-requires
 shared-count-requires c κs = search needs
@@ -31,15 +28,14 @@ len-requires : tie.Need-len-requires
 len-requires c κs = search needs
 
 returns-2 : tie.Need-returns-2
-returns-2 c = search (reports, stands asks, its-session, c .before .before .before .before .before .refusal .ensures, needs)
+returns-2 c = search (reports, stands asks, its-session, needs)
 
 pub answer-spec : {M : Type 1} → statement M
 answer-spec =
     tie.close
     (tie.spec
     session-requires
-    session-requires-2
-    refusal-requires
+    of-requires
     is-refused-requires
     returns
     shared-count-requires
