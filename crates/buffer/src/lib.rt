@@ -158,7 +158,7 @@ impl Buffer {
         false
     }
 
-    // A place's field after those that the store does not have yet.
+    // A place's field after those that the store does not have yet. The rows are asked here, because they are copied for each function between.
     pub fn carried(self, rows: Rows, q: Place, f: Field) -> Field
         ensures shows { λ r. ⌜ viewField r ≡ run (changesIn (pending (viewRows rows) (viewBuffer self))) (viewPlace q) (viewField f) ⌝ }
         ensures form { λ r. ⌜ (fieldForm f ≡ true → fieldForm r ≡ true) ⌝ }
@@ -167,7 +167,13 @@ impl Buffer {
         let mut now = f;
         let mut i: usize = 0;
         while i < count {
-            now = self.batches[i].carried(rows, q, now);
+            let b = self.batches[i];
+            let changes = b.changes;
+            if changes.touches(q) {
+                if !rows.has(b.number) {
+                    now = changes.run(q, now);
+                }
+            }
             i += 1;
         }
         now
