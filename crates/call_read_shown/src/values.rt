@@ -29,7 +29,7 @@ use keys::Keys;
 use rows::Rows;
 use store::Store;
 
-// The store's fields at the places of the key.
+// The store's fields at the places of the key, each read in place: `Store::field` would have the store copied for it.
 pub fn stored(store: Store, key: Key, k: u8) -> Cached
     ensures shows { λ r. ⌜ viewCached r ≡ record { key = k; fields = map (viewStore store) (viewKey key) } ⌝ }
     ensures form { λ r. ⌜ (storeForm store ≡ true → cachedForm r ≡ true) ⌝ }
@@ -39,7 +39,12 @@ pub fn stored(store: Store, key: Key, k: u8) -> Cached
     let mut i: u8 = 0;
     while i < n {
         let q = key.place(i);
-        t = t.push(store.field(q));
+        let at = store::index_of(q);
+        let mut f = Field::empty();
+        if at < Store::LIMIT {
+            f = store.fields[at];
+        }
+        t = t.push(f);
         i += 1;
     }
     t
@@ -97,7 +102,7 @@ pub fn found(cache: Cache, k: u8) -> Cached
 }
 
 // How many fields there are.
-fn len(c: Cached) -> usize
+pub fn len(c: Cached) -> usize
     ensures few { λ r. ⌜ r ≤ placeLimit ⌝ }
     ensures shows { λ r. ⌜ r ≡ length (viewCached c .fields) ⌝ }
 {

@@ -21,7 +21,7 @@ pub struct Store {
 }
 
 // Where a place's field stands, past the end if there is no such place.
-fn index_of(q: Place) -> usize
+pub fn index_of(q: Place) -> usize
     ensures { λ r. ⌜ r ≡ cond (inRange (viewPlace q)) (indexOf (viewPlace q)) (documentCount * fieldCount) ⌝ }
 {
     let document = q.document as usize;
