@@ -54,7 +54,7 @@ use Rattle.call_read_shown.specs.declared.Marked.{Marked}
 use Rattle.call_read_shown.proofs.Kept.{shown-is, cache-is}
 use Rattle.call_read.specs.Left.{left}
 use Rattle.call_read.specs.Shows.{Shows, wordsBy, foundAnswer, foundWords, filledBy}
-use Rattle.call_read.proofs.Filled.{refused-leaves}
+use Rattle.call_read.proofs.Filled.{refused-unread}
 use Rattle.call_read.proofs.Named.{named}
 
 -- ── the tables looked at are the plant's ──
@@ -164,7 +164,7 @@ module _ (p : Plant) (z : ℤ) (fz : SFits w64 z) (n : ℕ) (en : n ≡ sessionN
 
   module _ (t : r ≡ true) where
     leaves-words : (fs : List S.Field) → filledBy a fs lent ≡ lent
-    leaves-words fs = sym (refused-leaves fs lent a (sym er ∙ t))
+    leaves-words fs = rw (refused-unread a (sym er ∙ t)) refl
 
     turned-found : (fs : List S.Field) → p .near ≡ false → (viewAnswer a ≡ foundAnswer z y lent (atHand p)) × (filledBy a fs lent ≡ foundWords z y lent (atHand p))
     turned-found fs h = let x = told-found met (markNumber (mark n k (atHand p)) ∷ []) (shownFields n k (atHand p)) lent (met-is ∙ t) in found (viewAnswer a) (filledBy a fs lent) (ea ∙ x .0, leaves-words fs ∙ x .1)

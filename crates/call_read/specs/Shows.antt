@@ -1,12 +1,12 @@
 -- What a read shows of any plant, as code finds it, with its mark. On a kept plant these are the fields that the session sees.
-use Prim.Native.Nat.{ℕ}
+use Prim.Native.Nat.{ℕ, _*_}
 use mathlib.Core.Path.{_≡_}
-use mathlib.Core.Bool.{true, false}
+use mathlib.Core.Bool.{Bool, true, false, cond}
 use mathlib.Core.Option.{Option, none, some}
 use mathlib.Core.List.{List, [], _∷_}
 use lib.IntN.{ℤ, pos}
 use lib.ListN.{length}
-use Rattle.rules.specs.Limits.{keyCount}
+use Rattle.rules.specs.Limits.{keyCount, wordsPerField}
 use Rattle.rules.specs.Values.{Field}
 use Rattle.rules.specs.Refusals.{Refusal, first}
 use Rattle.rules.specs.Tables as M
@@ -32,10 +32,12 @@ use Rattle.call_read.specs.declared.Seen.{Seen}
 abbrev pub keyAt : ℤ → ℕ
 keyAt key = indexNumber key keyCount
 
+-- the fields that a read shows
+abbrev pub fieldsOf : ℤ → ℤ → Plant → List Field
+fieldsOf session key p = shownFields (sessionNumber session) (keyAt key) (viewPlant p)
+
 abbrev pub Shows : ℤ → ℤ → Plant → Marked → Type 0
-Shows session key p m =
-    (viewMark (m .mark) ≡ mark (sessionNumber session) (keyAt key) (viewPlant p))
-    × (viewCached (m .fields) ≡ record { key = keyAt key; fields = shownFields (sessionNumber session) (keyAt key) (viewPlant p) })
+Shows session key p m = (viewMark (m .mark) ≡ mark (sessionNumber session) (keyAt key) (viewPlant p)) × (viewCached (m .fields) ≡ record { key = keyAt key; fields = fieldsOf session key p })
 
 -- the words of a read that meets this refusal, or none
 abbrev pub wordsBy : Option Refusal → List Field → List ℤ → List ℤ
@@ -49,23 +51,31 @@ foundAnswer session key lent p = answerBy (first (conditions (Read (pos (session
 unfoldable pub foundWords : ℤ → ℤ → List ℤ → M.Plant → List ℤ
 foundWords session key lent p = wordsBy (first (conditions (Read (pos (sessionNumber session)) (pos (keyAt key))) lent p)) (shownFields (sessionNumber session) (keyAt key) p) lent
 
--- the lent words after an answer: an answered read shows these fields in them, any other answer leaves them
+-- the answer of a read that is not refused
+abbrev pub isRead : A.Answer → Bool
+isRead (answer.Refused r) = false
+isRead answer.Done = false
+isRead (answer.Begun n) = false
+isRead (answer.Read m) = true
+isRead (answer.Changed n) = false
+isRead (answer.Committed n) = false
+isRead (answer.Advanced t) = false
+isRead (answer.Taken n) = false
+isRead (answer.Applied r) = false
+isRead (answer.Deleted b) = false
+isRead (answer.Swept n) = false
+isRead (answer.Reported a b c) = false
+
+-- the lent words after it: it shows its fields in them, any other answer leaves them
 abbrev pub filledBy : A.Answer → List Field → List ℤ → List ℤ
-filledBy (answer.Refused r) fs lent = lent
-filledBy answer.Done fs lent = lent
-filledBy (answer.Begun n) fs lent = lent
-filledBy (answer.Read m) fs lent = shownIn fs lent
-filledBy (answer.Changed n) fs lent = lent
-filledBy (answer.Committed n) fs lent = lent
-filledBy (answer.Advanced t) fs lent = lent
-filledBy (answer.Taken n) fs lent = lent
-filledBy (answer.Applied r) fs lent = lent
-filledBy (answer.Deleted b) fs lent = lent
-filledBy (answer.Swept n) fs lent = lent
-filledBy (answer.Reported a b c) fs lent = lent
+filledBy a fs lent = cond (isRead a) (shownIn fs lent) lent
 
 abbrev pub filled : Seen → List ℤ → List ℤ
 filled o lent = filledBy (o .answer) (viewCached (o .shown .fields) .fields) lent
+
+-- and how many words that takes
+abbrev pub shownBy : Seen → ℕ
+shownBy o = cond (isRead (o .answer)) (wordsPerField * length (viewCached (o .shown .fields) .fields)) 0
 
 -- what is found for any words of that number
 pub record Found (session key : ℤ) (p : Plant) (lent : ℕ) (o : Seen) : Type 0 where

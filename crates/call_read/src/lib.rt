@@ -8,39 +8,36 @@ ghost use Rattle.plant.specs.View.{plantForm};
 ghost use Rattle.cache.specs.cached.Form.{cachedForm};
 ghost use Rattle.promises.specs.Promise.{Performs};
 ghost use Rattle.call_read.specs.Left.{left};
-ghost use Rattle.call_read.specs.Shows.{Shows, filled, Found};
+ghost use Rattle.call_read.specs.Shows.{Shows, filled, shownBy, Found};
 use answers::Answer;
 use cache::Cache;
 use call_read_shown::Marked;
+use call_read_shown::values;
+use field::Field;
 use keys::Keys;
 use plant::Plant;
 use sessions::Sessions;
 
-// What a call answers, and what it shows where it is a read that is not refused.
+// What a read answers, and what it shows where it is not refused.
 pub struct Seen {
     pub answer: Answer,
     pub shown: Marked,
 }
 
 impl Seen {
-    // An answer that shows nothing.
-    pub fn of(answer: Answer) -> Self
-        ensures told { λ r. ⌜ r .answer ≡ answer ⌝ }
-        ensures form { λ r. ⌜ cachedForm (r .shown .fields) ≡ true ⌝ }
-    {
-        let shown = Marked::nothing();
-        Self { answer, shown }
-    }
-
-    // Fills the words: of an answered read with its fields, else with nothing.
-    pub fn fill(self, words: &mut [i32])
-        ensures { λ r. ⌜ now (words .exit) ≡ filled self (now (words .entry)) ⌝ }
+    // Fills the words, where there are enough: of an answered read with its fields, else with nothing. It gives how many that takes.
+    pub fn fill(self, words: &mut [i32]) -> usize
+        ensures fills { λ r. ⌜ now (words .exit) ≡ filled self (now (words .entry)) ⌝ }
+        ensures counts { λ r. ⌜ r ≡ shownBy self ⌝ }
     {
         let answer = self.answer;
         let shown = self.shown;
+        let fields = shown.fields;
         if let Answer::Read(_) = answer {
-            call_read_shown::values::write(shown.fields, words);
+            values::write(fields, words);
+            return Field::WORDS * values::len(fields);
         }
+        0
     }
 }
 

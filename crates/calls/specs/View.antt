@@ -28,7 +28,7 @@ viewCall (Report s) = C.Report s
 
 -- the calls of a list
 abbrev pub listLimit : ℕ
-listLimit = 64
+listLimit = 128
 
 unfoldable pub viewCalls : Calls → List Call
 viewCalls t = counted (λ (i : Item). i .call) (t .count) (t .items)

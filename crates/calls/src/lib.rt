@@ -49,7 +49,7 @@ pub struct Calls {
 }
 
 impl Calls {
-    pub const LIMIT: usize = 64;
+    pub const LIMIT: usize = 128;
 
     pub fn none() -> Self
         ensures shows { λ r. ⌜ viewCalls r ≡ [] ⌝ }

@@ -28,8 +28,9 @@ use Rattle.plant.proofs.Unique.{plant-unique}
 use Rattle.calls.specs.View.{viewCall}
 use Rattle.calls.specs.declared.Call.{Call}
 use Rattle.calls.specs.declared.Call.the-variants.{Load, Map, Begin, Read, Change, Commit, Abandon, Advance, Take, Apply, Delete, Cut, Sweep, Store, Report}
+use Rattle.entry_parts.specs.Session.{hasSession}
 use Rattle.entry.specs.Demand3.{left, noted}
-use Rattle.entry.specs.Demands.{Unchanged, Ends, hasSession, Never, EndsSession, Demand1, ReadsShow, CommitLeavesStore, Demand2}
+use Rattle.entry.specs.Demands.{Unchanged, Ends, Never, EndsSession, Demand1, ReadsShow, CommitLeavesStore, Demand2}
 use Rattle.entry.proofs.Demand3.{world, replay}
 
 form-of : (p : Plant) → keptPlant p ≡ true → plantForm p ≡ true

@@ -1,30 +1,24 @@
 -- Calls that are run are a list of calls as the demands speak of it.
-use Prim.Native.Nat.{ℕ}
-use mathlib.Core.Path.{_≡_, refl, sym, ap}
+use mathlib.Core.Path.{refl, sym, ap}
 use mathlib.Core.List.{List, [], _∷_}
-use lib.IntN.{ℤ, pos}
-use lib.ListN.{replicate, length-replicate}
-use Rattle.plant.specs.declared.Plant.{Plant}
+use lib.IntN.{ℤ}
+use lib.ListN.{take, drop}
 use Rattle.answers.specs.declared.Answer.{Answer}
 use Rattle.calls.specs.declared.Call.{Call}
-use Rattle.call_read.specs.Shows.{filled}
-use Rattle.call_read.specs.declared.Seen.{Seen}
-use Rattle.entry.specs.RanAll.{RanAll}
-use Rattle.entry.specs.Listed.{Events, Listed}
+use Rattle.entry.specs.Listed.{Listed}
 
 pub listed : Listed
-listed n p [] [] q r = record { events = []; calls = refl; answers = refl; runs = tt; leaves = sym r }
-listed n p [] (o ∷ os) q r = absurd r
-listed n p (c ∷ cs) [] q r = absurd r
-listed n p (c ∷ cs) (o ∷ os) q r =
-    let m = r .0 in
-    let lent : List ℤ = replicate n (pos 0) in
-    let x = r .1 .0 lent (length-replicate n (pos 0)) in
-    let rest = listed n m cs os q (r .1 .1) in
+listed n p [] [] lent words q r = record { events = []; calls = refl; lends = refl; answers = refl; fills = refl; runs = tt; leaves = sym (r .0) }
+listed n p [] (t ∷ ts) lent words q r = absurd r
+listed n p (c ∷ cs) [] lent words q r = absurd r
+listed n p (c ∷ cs) (t ∷ ts) lent words q r =
+    let rest = listed n (r .0) cs ts (drop n lent) (drop n words) q (r .1 .1) in
     record {
-      events = record { call = c; lent = lent; answer = o .answer; words = filled o lent; plant = m } ∷ rest .events;
+      events = record { call = c; lent = take n lent; answer = t .answer; words = take n words; plant = r .0 } ∷ rest .events;
       calls = ap (λ (l : List Call). c ∷ l) (rest .calls);
-      answers = ap (λ (l : List Answer). o .answer ∷ l) (rest .answers);
-      runs = (x .runs, rest .runs);
+      lends = ap (λ (l : List (List ℤ)). take n lent ∷ l) (rest .lends);
+      answers = ap (λ (l : List Answer). t .answer ∷ l) (rest .answers);
+      fills = ap (λ (l : List (List ℤ)). take n words ∷ l) (rest .fills);
+      runs = (r .1 .0 .runs, rest .runs);
       leaves = rest .leaves;
     }

@@ -3,14 +3,13 @@
 -- from the rules' theorem and the entry's promise alone.
 use Prim.Native.Nat.{ℕ}
 use mathlib.Core.Path.{_≡_}
-use mathlib.Core.Bool.{Bool, false, true}
-use mathlib.Core.List.{List, [], _∷_}
+use mathlib.Core.Bool.{false, true}
+use mathlib.Core.List.{List}
 use lib.IntN.{ℤ}
-use Rattle.rules.specs.Lists.{has}
 use Rattle.rules.specs.Values.{natOf}
 use Rattle.rules.specs.Refusals as R
 use Rattle.rules.specs.Tables as M
-use Rattle.rules.specs.Calls.{callNumber, refused, fine}
+use Rattle.rules.specs.Calls.{refused, fine}
 use Rattle.rules.specs.History.{emptyHistory}
 use Rattle.rules.specs.Claims.{ShownBy}
 use Rattle.sessions.specs.View.{viewSessions}
@@ -19,9 +18,9 @@ use Rattle.plant.specs.With.{withSessions}
 use Rattle.plant.specs.declared.Plant.{Plant}
 use Rattle.answers.specs.View.{viewAnswer}
 use Rattle.answers.specs.declared.Answer.{Answer}
-use Rattle.calls.specs.View.{viewCall}
 use Rattle.calls.specs.declared.Call.{Call}
 use Rattle.calls.specs.declared.Call.the-variants.{Read, Change, Commit, Abandon, Report}
+use Rattle.entry_parts.specs.Session.{hasSession}
 use Rattle.entry.specs.Ran.{Ran}
 use Rattle.entry.specs.Demand3.{Event, Runs, left, noted}
 
@@ -44,10 +43,7 @@ pub record Without (s : ℤ) (lent : List ℤ) (p : Plant) (words : List ℤ) (q
 abbrev pub Ends : R.Refusal → Call → ℤ → Type 0
 Ends r c s = WhereRefused c r (Without s)
 
--- 4 read, 5 change, 6 commit, 7 abandon, 15 report
-abbrev pub hasSession : Call → Bool
-hasSession c = has (callNumber (viewCall c)) (4 ∷ 5 ∷ 6 ∷ 7 ∷ 15 ∷ [])
-
+-- of a call that is no session's
 abbrev pub Never : R.Refusal → Type 0
 Never r = (c : Call) → hasSession c ≡ false → WhereRefused c r (λ lent p words q. ⊥)
 

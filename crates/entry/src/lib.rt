@@ -10,40 +10,62 @@ ghost use Rattle.entry.specs.Ran.{Ran};
 ghost use Rattle.entry.specs.RanAll.{RanAll};
 ghost use Rattle.entry.specs.Refused.{RefusalLeaves};
 use answers::Answer;
-use call_read::Seen;
+use call_read_shown::Marked;
 use calls::Call;
 use calls::Calls;
 use plant::Plant;
 
-// The plant that calls leave, and what they answered, in their order: the first `count`. The count stands between the two, because the compiler
+// What a call answered, and how many of the words lent to it it shows.
+pub struct Told {
+    pub answer: Answer,
+    pub shown: usize,
+}
+
+// The plant that calls leave, and what they were told, in their order: the first `count`. The count stands between the two, because the compiler
 // then moves the plant by itself, and half as often.
 pub struct Outcomes {
     pub plant: Plant,
     pub count: usize,
-    pub seen: [Seen; Calls::LIMIT],
+    pub told: [Told; Calls::LIMIT],
 }
 
-// Runs calls one after the other, with so many words lent to each. The plant lies here: calls are asked where it lies and their tables are
-// written in place, because a plant that goes through a function is copied. What a read shows is kept for the cache, and not worked out again.
-pub fn run_all(mut p: Plant, calls: Calls, lent: usize) -> Outcomes
-    ensures runs { λ r. ⌜ RanAll lent p (viewCalls calls) (take (r .count) (r .seen)) (r .plant) ⌝ }
+// Runs calls one after the other, and lends each the next `share` of the words, as far as there are any. The plant lies here: calls are asked where it lies and their
+// tables are written in place, because a plant that goes through a function is copied. What a read shows is kept for the cache, and not worked
+// out again.
+pub fn run_all(mut p: Plant, calls: Calls, share: usize, words: &mut [i32]) -> Outcomes
+    ensures runs { λ r. ⌜ RanAll share p (viewCalls calls) (take (r .count) (r .told)) (now (words .entry)) (now (words .exit)) (r .plant) ⌝ }
     ensures counts { λ r. ⌜ r .count ≡ length (viewCalls calls) ⌝ }
 {
-    let none = Seen::of(Answer::Done);
-    let mut seen = [none; Calls::LIMIT];
+    let none = Told {
+        answer: Answer::Done,
+        shown: 0,
+    };
+    let mut told = [none; Calls::LIMIT];
+    let mut read = Marked::nothing();
     let end = calls.len();
     let mut i: usize = 0;
+    let mut at: usize = 0;
     while i < end {
         let item = calls.items[i];
         let c = item.call;
-        let o = match c {
-            Call::Read(s, k) => call_read::found(p, s, k, lent),
-            Call::Change(s, d, f, k, v) => Seen::of(call_change::answer(p, s, d, f, k, v)),
-            _ => Seen::of(entry_parts::plain(p, c)),
+        let next = at + lists::lesser(share, words.len() - at);
+        let mut shown: usize = 0;
+        let a = match c {
+            Call::Read(s, k) => {
+                let o = call_read::found(p, s, k, next - at);
+                shown = o.fill(&mut words[at..next]);
+                read = o.shown;
+                o.answer
+            }
+            Call::Change(s, d, f, k, v) => call_change::answer(p, s, d, f, k, v),
+            Call::Commit(s) => call_commit::answer(p, s),
+            Call::Abandon(s) => call_abandon::answer(p, s),
+            Call::Report(s) => call_report::answer(p, s),
+            _ => entry_parts::plain(p, c),
         };
-        seen[i] = o;
+        told[i] = Told { answer: a, shown };
         i += 1;
-        let a = o.answer;
+        at = next;
         if a.ends_session() {
             let sessions = entry_parts::ended(p, c);
             p.sessions = sessions;
@@ -68,8 +90,7 @@ pub fn run_all(mut p: Plant, calls: Calls, lent: usize) -> Outcomes
                 p.next = t.next;
             }
             Call::Read(s, k) => {
-                let shown = o.shown;
-                let t = call_read::after(p, s, k, shown);
+                let t = call_read::after(p, s, k, read);
                 let cache = t.cache;
                 let sessions = t.sessions;
                 p.cache = cache;
@@ -148,7 +169,7 @@ pub fn run_all(mut p: Plant, calls: Calls, lent: usize) -> Outcomes
     Outcomes {
         plant: p,
         count: i,
-        seen,
+        told,
     }
 }
 
@@ -165,10 +186,10 @@ pub fn run(p: Plant, c: Call, words: &mut [i32]) -> Outcome
     ensures memory { λ r. ⌜ (isRefused (viewAnswer (r .answer)) ≡ true → now (words .exit) ≡ now (words .entry)) ⌝ }
 {
     let none = Calls::none();
-    let all = run_all(p, none.push(c), words.len());
-    let o = all.seen[0];
-    o.fill(words);
-    let answer = o.answer;
+    let share = words.len();
+    let all = run_all(p, none.push(c), share, words);
+    let t = all.told[0];
+    let answer = t.answer;
     let plant = all.plant;
     Outcome { answer, plant }
 }

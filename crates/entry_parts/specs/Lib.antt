@@ -1,2 +1,2 @@
--- Which calls ask what a session sees.
-pub mod Plain
+-- Which calls are a session's.
+pub mod Session

@@ -1,7 +1,7 @@
-// Over all fifteen calls: what a call answers that does not ask what a session sees, and the sessions where a refusal ends one. The arms that ask
-// read and change, and that write tables, are the entry's.
+// Over all fifteen calls: what a call answers that is no session's, and the sessions where a refusal ends one. The arms of a session's calls,
+// and those that write tables, are the entry's.
 ghost use mathlib.Core.Path.{_≡_};
-ghost use mathlib.Core.Bool.{true};
+ghost use mathlib.Core.Bool.{true, false};
 ghost use mathlib.Core.List.{List};
 ghost use lib.IntN.{ℤ};
 ghost use Rattle.rules.specs.Step.{sessionOf, ending};
@@ -10,17 +10,17 @@ ghost use Rattle.plant.specs.View.{viewPlant, keptPlant, plantForm};
 ghost use Rattle.plant.specs.With.{withSessions};
 ghost use Rattle.answers.specs.Own.{isAnswerOf};
 ghost use Rattle.promises.specs.Promise.{Answers};
-ghost use Rattle.entry_parts.specs.Plain.{isPlain};
+ghost use Rattle.entry_parts.specs.Session.{hasSession};
 use answers::Answer;
 use calls::Call;
 use plant::Plant;
 use sessions::Sessions;
 
-// The answer of a call that does not ask what a session sees. None of these hands on a larger table than the sessions, so the plant is not copied on its way
-// through here. Read and change do, so a loop that owns the plant asks them directly.
+// The answer of a call that is no session's. None of these but load, which comes before the first session, hands on a larger table than the sessions, so
+// the plant is not copied on its way through here. A session's calls are asked directly, by a loop that owns the plant.
 pub fn plain(p: Plant, c: Call) -> Answer
-    ensures answers { λ r. ⌜ (isPlain c ≡ true → (lent : List ℤ) → Answers (viewCall c) lent p r) ⌝ }
-    ensures own { λ r. ⌜ (isPlain c ≡ true → isAnswerOf (viewCall c) r ≡ true) ⌝ }
+    ensures answers { λ r. ⌜ (hasSession c ≡ false → (lent : List ℤ) → Answers (viewCall c) lent p r) ⌝ }
+    ensures own { λ r. ⌜ (hasSession c ≡ false → isAnswerOf (viewCall c) r ≡ true) ⌝ }
 {
     match c {
         Call::Load(d, f, k, v) => call_load::answer(p, d, f, k, v),
@@ -38,8 +38,6 @@ pub fn plain(p: Plant, c: Call) -> Answer
             f4,
         ),
         Call::Begin => call_begin::answer(p),
-        Call::Commit(s) => call_commit::answer(p, s),
-        Call::Abandon(s) => call_abandon::answer(p, s),
         Call::Advance(n) => call_advance::answer(p, n),
         Call::Take(w) => call_take::answer(p, w),
         Call::Apply(w, f) => call_apply::answer(p, w, f),
@@ -47,7 +45,6 @@ pub fn plain(p: Plant, c: Call) -> Answer
         Call::Cut(w) => call_cut::answer(p, w),
         Call::Sweep => call_sweep::answer(p),
         Call::Store(n) => call_store::answer(p, n),
-        Call::Report(s) => call_report::answer(p, s),
         _ => Answer::Done,
     }
 }

@@ -1,24 +1,21 @@
--- What printing an answer promises: on a plant that keeps the tables' rules the bytes and the plant left are those that the format says, for
--- an allowed choice; and of any plant, which bytes they are.
+-- What is printed: of any plant, which bytes they are; and on a plant that keeps the tables' rules, that they and the plant left are those that
+-- the format says, for an allowed choice.
 use Prim.Native.Nat.{_*_, _≤_, ℕ}
 use mathlib.Core.Path.{_≡_}
 use mathlib.Core.Bool.{true}
 use mathlib.Core.List.{List, [], _∷_, _++_}
+use lib.IntN.{ℤ}
 use lib.ListN.{drop, length, take}
-use Rattle.rules.specs.Limits.{wordsPerField}
+use Rattle.rules.specs.Limits.{wordsPerField, placeLimit}
 use Rattle.rules.specs.Calls.{Pick, refused}
 use Rattle.rules.specs.Step.{Allowed}
 use Rattle.line_format.specs.Lines as L
-use Rattle.line_format.specs.Serving.{lentWords, ended, performed}
-use Rattle.cache.specs.cached.View.{viewCached}
+use Rattle.line_format.specs.Serving.{ended, performed}
 use Rattle.plant.specs.View.{viewPlant, keptPlant}
 use Rattle.plant.specs.declared.Plant.{Plant}
 use Rattle.answers.specs.View.{viewAnswer, viewRefusal}
 use Rattle.answers.specs.declared.Refusal as R
-use Rattle.answers.specs.declared.Answer.{Answer}
-use Rattle.answers.specs.declared.Answer.the-variants.{Refused, Done, Begun, Read, Changed, Committed, Advanced, Taken, Applied, Deleted, Swept, Reported}
-use Rattle.call_read.specs.Shows.{filled}
-use Rattle.call_read.specs.declared.Seen.{Seen}
+use Rattle.entry.specs.declared.Told.{Told}
 
 -- the bytes answered to what a line says, and the plant left
 pub record Answered (said : L.Said) (p : Plant) (bytes : List ℕ) (q : Plant) : Type 0 where
@@ -35,31 +32,17 @@ pub record Put (most : ℕ) (bytes lent out : List ℕ) (len : ℕ) : Type 0 whe
   pub counts : len ≡ length bytes
   pub few : len ≤ most
 
--- the fields that are shown with an answer, where a read has found so many
-abbrev pub placesBy : Answer → ℕ → ℕ
-placesBy (Refused r) n = 0
-placesBy Done n = 0
-placesBy (Begun s) n = 0
-placesBy (Read m) n = n
-placesBy (Changed k) n = 0
-placesBy (Committed k) n = 0
-placesBy (Advanced t) n = 0
-placesBy (Taken s) n = 0
-placesBy (Applied r) n = 0
-placesBy (Deleted b) n = 0
-placesBy (Swept k) n = 0
-placesBy (Reported a b c) n = 0
+-- the line of what a call was told, with those of its words that it shows
+abbrev pub toldLine : Told → List ℤ → List ℕ
+toldLine t words = ended (L.answerLine (viewAnswer (t .answer)) (take (t .shown) words))
 
-abbrev pub placesOf : Seen → ℕ
-placesOf o = placesBy (o .answer) (length (viewCached (o .shown .fields) .fields))
+-- to each of them were lent the words of the longest key
+abbrev pub lineWords : ℕ
+lineWords = wordsPerField * placeLimit
 
--- the line of what a call answered, with the words that it shows
-abbrev pub toldLine : Seen → List ℕ
-toldLine o = ended (L.answerLine (viewAnswer (o .answer)) (take (wordsPerField * placesOf o) (filled o lentWords)))
-
-abbrev pub toldLines : List Seen → List ℕ
-toldLines [] = []
-toldLines (o ∷ os) = toldLine o ++ toldLines os
+abbrev pub toldLines : List Told → List ℤ → List ℕ
+toldLines [] words = []
+toldLines (t ∷ ts) words = toldLine t (take lineWords words) ++ toldLines ts (drop lineWords words)
 
 -- and the line for a line that says no call
 abbrev pub refusedLine : R.Refusal → List ℕ

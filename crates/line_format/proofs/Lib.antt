@@ -3,6 +3,7 @@ pub mod Worked
 pub mod Short
 pub mod Cutting
 pub mod Serving
+pub mod Words
 pub mod Feeding
 pub mod ReadBack
 pub mod Widths

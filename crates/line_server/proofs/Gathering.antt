@@ -1,23 +1,24 @@
--- The lines of a piece as the calls that they say: the loop that gathers them.
+-- The lines of a piece as the calls that they say, and the list that they go into.
 use Prim.Native.Nat.{ℕ, suc, zero, _≤_, _<_, _+_, _-_, _*_}
 use native.Mathlib.Omega.{arith}
-use mathlib.Core.Path.{_≡_, refl, sym, _∙_, ap, subst}
+use mathlib.Core.Path.{_≡_, refl, sym, _∙_, ap}
 use mathlib.Core.Bool.{true, false}
-use mathlib.Core.List.{List, [], _++_, _∷_, append-assoc, append-nil}
+use mathlib.Core.List.{List, [], _++_, _∷_, append-assoc}
 use lib.ListN.{length, take, drop, set, length-append, length-drop, length-set}
-use lib.Seq.{length-take-le, take-all, take-append-add, drop-drop}
+use lib.Seq.{length-take-le, take-add, take-append-add, drop-drop}
 use lib.Dec.{ltb}
 use borrow.Author.Tests.{lt-ltb, ltb-true, ltb-false}
 use Rattle.rules.proofs.Laws.{byCase}
 use Rattle.rules.specs.Lists.{pushed}
-use Rattle.lists.proofs.Views.{push-room, counted-few, counted-full}
-use Rattle.answers.specs.declared.Refusal.{Refusal}
-use Rattle.calls.specs.View.{viewCalls, listLimit}
+use Rattle.lists.specs.Table.{counted}
+use Rattle.lists.proofs.Views.{push-room, counted-few}
+use Rattle.calls.specs.View.{viewCall, viewCalls, listLimit}
 use Rattle.calls.specs.declared.Call.{Call}
 use Rattle.calls.specs.declared.Item.{Item}
 use Rattle.calls.specs.declared.Calls.{Calls}
-use Rattle.line_format.specs.Bytes.{newline, lineLimit}
-use Rattle.line_format.specs.Lines.{said}
+use Rattle.entry.proofs.RunAll.{counts}
+use Rattle.line_format.specs.Bytes.{newline}
+use Rattle.line_format.specs.Lines.{said, says}
 use Rattle.line_format.specs.Feeding.{hasEnd}
 use Rattle.line_print.specs.Line.{longest}
 use Rattle.line_parse.specs.View.{viewSaid}
@@ -25,27 +26,22 @@ use Rattle.line_parse.specs.declared.Said.the-variants as said
 use Rattle.line_pending.specs.View.{viewPending, pendingForm, between, endFrom}
 use Rattle.line_pending.proofs.Ending.{end-at, end-within, end-front, end-found}
 use Rattle.line_pending.specs.declared.Pending.{Pending}
-use Rattle.line_server.specs.Gathers.{Lines, Stopped, Gathers}
-use Rattle.line_server.specs.declared.Stop.the-variants.{Faulty, Not}
 
 -- ── parts of a piece ──
 pub take-between : {A : Type 0} (a b : ℕ) (l : List A) → a ≤ b → take b l ≡ take a l ++ take (b - a) (drop a l)
-take-between zero b l h = let e : b - 0 ≡ b = omega arith in rw e refl
-take-between (suc a) zero l h = absurd (omega (arith, h))
-take-between (suc a) (suc b) [] h = sym (take-all (suc b - suc a) [] (omega arith))
-take-between (suc a) (suc b) (x ∷ l) h = let e : suc b - suc a ≡ b - a = omega arith in rw e (ap (λ m. x ∷ m) (take-between a b l (omega (arith, h))))
+take-between a b l h = let e : a + (b - a) ≡ b = omega (arith, h) in ap (λ n. take n l) (sym e) ∙ take-add a (b - a) l
 
-pub between-on : (a b c : ℕ) (l : List ℕ) → a ≤ b → b ≤ c → between a c l ≡ between a b l ++ between b c l
+between-on : (a b c : ℕ) (l : List ℕ) → a ≤ b → b ≤ c → between a c l ≡ between a b l ++ between b c l
 between-on a b c l h k =
     let m : c - a - (b - a) ≡ c - b = omega (arith, h, k) in
     let n : a + (b - a) ≡ b = omega (arith, h) in
     take-between (b - a) (c - a) (drop a l) (omega (arith, h, k)) ∙ ap (λ r. between a b l ++ r) (ap (λ i. take i (drop (b - a) (drop a l))) m ∙ ap (take (c - b)) (drop-drop (b - a) a l ∙ ap (λ i. drop i l) n))
 
-pub nothing-between : (n : ℕ) (l : List ℕ) → between n n l ≡ []
+nothing-between : (n : ℕ) (l : List ℕ) → between n n l ≡ []
 nothing-between n l = let e : n - n ≡ 0 = omega arith in rw e refl
 
 -- up to byte 10, with it
-pub ended-line : (from end : ℕ) (piece : List ℕ) → end ≡ endFrom from piece → from ≤ length piece → end < length piece → between from (end + 1) piece ≡ between from end piece ++ (newline ∷ [])
+ended-line : (from end : ℕ) (piece : List ℕ) → end ≡ endFrom from piece → from ≤ length piece → end < length piece → between from (end + 1) piece ≡ between from end piece ++ (newline ∷ [])
 ended-line from end piece ee w found =
     let f : endFrom from piece < length piece = rw (← ee) found in
     let a : from ≤ end = rw ee (end-at from piece w) in
@@ -54,18 +50,23 @@ ended-line from end piece ee w found =
     let n : end + 1 - from ≡ length (between from end piece) + 1 = omega (arith, l, a) in
     ap (λ m. take m (drop from piece)) n ∙ ap (take (length (between from end piece) + 1)) e ∙ take-append-add (between from end piece) (newline ∷ drop (end + 1) piece) 1
 
--- ── lines, and more of them ──
--- nothing follows
-abbrev pub Left : List ℕ → List ℕ → List ℕ → Type 0
-Left v u bytes = (bytes ≡ []) × (v ≡ u)
+-- ── lines ──
+-- bytes that come after u, which is kept of a line: they end the lines that say these calls, one after the other; then v is kept
+abbrev pub Lines : List ℕ → List ℕ → List Call → List ℕ → Type 0
+Lines u bytes [] v = (bytes ≡ []) × (v ≡ u)
+Lines u bytes (c ∷ cs) v =
+    (l : List ℕ) × ((rest : List ℕ) × ((bytes ≡ l ++ (newline ∷ rest)) × ((hasEnd l ≡ false) × ((said (u ++ l) ≡ says (viewCall c)) × Lines [] rest cs v))))
 
-lines-append : (End : List ℕ → List ℕ → Type 0) (v u bs more : List ℕ) (cs ds : List Call) → Lines (Left v) u bs cs → Lines End v more ds → Lines End u (bs ++ more) (cs ++ ds)
-lines-append End v u bs more [] ds (e, f) r = rw (e, ← f) r
-lines-append End v u bs more (c ∷ cs) ds (l, (rest, (e, (free, (s, h))))) r =
-    (l, (rest ++ more, (ap (λ b. b ++ more) e ∙ append-assoc l (newline ∷ rest) more, (free, (s, lines-append End v [] rest more cs ds h r)))))
+-- one line more
+line-more : (u bs : List ℕ) (cs : List Call) (v : List ℕ) → Lines u bs cs v → (l : List ℕ) (c : Call) → hasEnd l ≡ false → said (v ++ l) ≡ says (viewCall c) → (w : List ℕ) → w ≡ []
+    → Lines u (bs ++ (l ++ (newline ∷ []))) (cs ++ (c ∷ [])) w
+line-more u bs [] v (e, f) l c free s w ew = (l, ([], (ap (λ b. b ++ (l ++ (newline ∷ []))) e, (free, (ap (λ x. said (x ++ l)) (sym f) ∙ s, (refl, ew))))))
+line-more u bs (x ∷ cs) v (m, (rest, (e, (fm, (sm, h))))) l c free s w ew =
+    (m, (rest ++ (l ++ (newline ∷ [])), (ap (λ b. b ++ (l ++ (newline ∷ []))) e ∙ append-assoc m (newline ∷ rest) (l ++ (newline ∷ [])), (fm, (sm, line-more [] rest cs v h l c free s w ew)))))
 
--- one call more in a list that has room
-abbrev withLast : Calls → Call → Calls
+-- ── the list ──
+-- one call more where there is room
+abbrev pub withLast : Calls → Call → Calls
 withLast calls c = record { items = set (calls .items) (calls .count) (record { call = c }); count = calls .count + 1 }
 
 put-last : (calls : Calls) (c : Call) → length (calls .items) ≡ listLimit → calls .count < listLimit → viewCalls (withLast calls c) ≡ viewCalls calls ++ (c ∷ [])
@@ -74,109 +75,65 @@ put-last calls c l h =
     let n : length (viewCalls calls) < listLimit = omega (arith, h, counted-few (λ (i : Item). i .call) (calls .count) (calls .items) listLimit l h) in
     push-room (λ (i : Item). i .call) (calls .count) (calls .items) listLimit (record { call = c }) l h refl ∙ rw (lt-ltb (length (viewCalls calls)) listLimit n) refl
 
-full-some : (calls : Calls) → length (calls .items) ≡ listLimit → listLimit ≤ calls .count → 0 < length (viewCalls calls)
-unfolding viewCalls
-full-some calls l h = omega (arith, counted-full (λ (i : Item). i .call) (calls .count) (calls .items) listLimit l h)
+pub calls-some : (calls : Calls) → length (calls .items) ≡ listLimit → 0 < calls .count → 0 < length (viewCalls calls)
+calls-some calls l h = omega (arith, h, counts calls l)
 
--- ── the loop ──
+pub no-calls : (calls : Calls) → calls .count ≡ 0 → viewCalls calls ≡ []
+unfolding viewCalls counted
+no-calls calls e = rw e refl
+
+-- the lines from one position up to another: what was kept before them and is now, and the room left for answers
 pub record Gathering (first : Pending) (piece : List ℕ) (from room : ℕ) (calls : Calls) (kept : Pending) (used left : ℕ) : Type 0 where
-  pub lines : Lines (Left (viewPending kept)) (viewPending first) (between from used piece) (viewCalls calls)
+  pub lines : Lines (viewPending first) (between from used piece) (viewCalls calls) (viewPending kept)
   pub spent : left + longest * length (viewCalls calls) ≡ room
-  pub within : (from ≤ used) × (used ≤ length piece)
-  pub begun : used ≤ from → length (viewCalls calls) ≡ 0
+  pub none : calls .count ≡ 0 → (kept ≡ first) × (used ≡ from)
+  pub some : 0 < calls .count → from < used
+  pub inside : used ≤ length piece
   pub entries : length (calls .items) ≡ listLimit
   pub few : calls .count ≤ listLimit
   pub form : pendingForm first ≡ true → pendingForm kept ≡ true
 
-pub gather-start : (first : Pending) (piece : List ℕ) (from room : ℕ) (calls : Calls) → viewCalls calls ≡ [] → (length (calls .items) ≡ listLimit) × (calls .count ≡ 0) → from ≤ length piece → Gathering first piece from room calls first from room
-gather-start first piece from room calls e x w =
+pub gather-start : (first : Pending) (piece : List ℕ) (from room : ℕ) (calls : Calls) → length (calls .items) ≡ listLimit → calls .count ≡ 0 → from ≤ length piece → Gathering first piece from room calls first from room
+gather-start first piece from room calls l z w =
+    let e = no-calls calls z in
     record {
       lines = rw e (nothing-between from piece, refl);
       spent = rw e (omega arith);
-      within = (omega arith, w);
-      begun = λ h. rw e refl;
-      entries = x .0;
-      few = omega (arith, x .1);
+      none = λ h. (refl, refl);
+      some = λ h. absurd (omega (arith, h, z));
+      inside = w;
+      entries = l;
+      few = omega (arith, z);
       form = λ f. f;
     }
 
-module _ (first : Pending) (piece : List ℕ) (from room : ℕ) (calls : Calls) (kept : Pending) (used left : ℕ) (g : Gathering first piece from room calls kept used left) where
-  -- with what follows
-  ended : (End : List ℕ → List ℕ → Type 0) (to : ℕ) (ds : List Call) → used ≤ to → Lines End (viewPending kept) (between used to piece) ds
-      → Lines End (viewPending first) (between from to piece) (viewCalls calls ++ ds)
-  ended End to ds h r =
-      subst (λ b. Lines End (viewPending first) b (viewCalls calls ++ ds)) (sym (between-on from used to piece (g .within .0) h))
-      (lines-append End (viewPending kept) (viewPending first) (between from used piece) (between used to piece) (viewCalls calls) ds (g .lines) r)
+-- a line of a piece that ends in it
+module _ (piece : List ℕ) (used end : ℕ) (ee : end ≡ endFrom used piece) (more : used < length piece) where
+  pub line-inside : (used ≤ end) × (end ≤ length piece)
+  line-inside = (rw ee (end-at used piece (omega (arith, more))), rw ee (end-within used piece))
 
-  -- where nothing more is taken: the piece is used, there is no more room, or the list is full
-  pub gather-end : (used ≤ from → from < length piece → longest ≤ room → ⊥) → Gathers first piece from room (record { calls = calls; pending = kept; used = used; stop = Not })
-  gather-end h =
-      let z = nothing-between used piece in
+  pub line-free : hasEnd (between used end piece) ≡ false
+  line-free = rw ee (end-front used piece)
+
+  pub line-ends : end < length piece → between used (end + 1) piece ≡ between used end piece ++ (newline ∷ [])
+  line-ends found = ended-line used end piece ee (omega (arith, more)) found
+
+  -- one that says a call, which is put last
+  pub gather-call : (first : Pending) (from room : ℕ) (calls : Calls) (kept : Pending) (left : ℕ) → Gathering first piece from room calls kept used left → end < length piece → longest ≤ left
+      → (empty : Pending) → viewPending empty ≡ [] → pendingForm empty ≡ true → (c : Call) → viewSaid (said.Says c) ≡ said (viewPending kept ++ between used end piece) → calls .count < listLimit
+      → Gathering first piece from room (withLast calls c) empty (end + 1) (left - longest)
+  gather-call first from room calls kept left g found space empty ek fk c h n =
+      let i = line-inside in
+      let en = put-last calls c (g .entries) n in
+      let e : length (viewCalls (withLast calls c)) ≡ length (viewCalls calls) + 1 = rw en (length-append (viewCalls calls) (c ∷ [])) in
+      let a : from ≤ used = byCase (ltb 0 (calls .count)) (λ t. let s = g .some (ltb-true 0 (calls .count) t) in omega (arith, s)) (λ t. let z = g .none (let y = ltb-false 0 (calls .count) t in omega (arith, y)) .1 in omega (arith, z)) in
       record {
-        lines = subst (λ cs. Lines (Stopped Not (viewPending kept)) (viewPending first) (between from used piece) cs) (append-nil (viewCalls calls)) (ended (Stopped Not (viewPending kept)) used [] (omega arith) (rw z (refl, λ l. sym (ap (take lineLimit) (append-nil (viewPending kept)) ∙ take-all lineLimit (viewPending kept) l))));
-        answers = omega (arith, g .spent);
-        within = g .within;
-        some = λ m r. byCase (ltb from used) (λ t. ltb-true from used t) (λ t. absurd (h (ltb-false from used t) m r));
-        form = g .form;
+        lines = rw (en, between-on from used (end + 1) piece a (omega (arith, i .0)), line-ends found) (line-more (viewPending first) (between from used piece) (viewCalls calls) (viewPending kept) (g .lines) (between used end piece) c line-free (sym h) (viewPending empty) ek);
+        spent = omega (arith, g .spent, space, e);
+        none = λ z. absurd (omega (arith, z));
+        some = λ z. omega (arith, a, i .0);
+        inside = omega (arith, found);
+        entries = length-set (calls .items) (calls .count) (record { call = c }) ∙ g .entries;
+        few = omega (arith, n);
+        form = λ f. fk;
       }
-
-  pub gather-no-room : left < longest → Gathers first piece from room (record { calls = calls; pending = kept; used = used; stop = Not })
-  gather-no-room h = gather-end (λ u m r. omega (arith, h, r, g .begun u, g .spent))
-
-  pub gather-full : listLimit ≤ calls .count → Gathers first piece from room (record { calls = calls; pending = kept; used = used; stop = Not })
-  gather-full h = gather-end (λ u m r. omega (arith, g .begun u, full-some calls (g .entries) h))
-
-  module _ (end : ℕ) (ee : end ≡ endFrom used piece) (more : used < length piece) where
-    pub line-inside : (used ≤ end) × (end ≤ length piece)
-    line-inside = (rw ee (end-at used piece (omega (arith, more))), rw ee (end-within used piece))
-
-    -- the piece ends no line more
-    pub gather-rest : length piece ≤ end → (rest : Pending) → viewPending rest ≡ take lineLimit (viewPending kept ++ between used end piece) → pendingForm rest ≡ true
-        → Gathers first piece from room (record { calls = calls; pending = rest; used = end; stop = Not })
-    gather-rest none rest er fr =
-        let i = line-inside in
-        let front : hasEnd (between used end piece) ≡ false = rw ee (end-front used piece) in
-        record {
-          lines = subst (λ cs. Lines (Stopped Not (viewPending rest)) (viewPending first) (between from end piece) cs) (append-nil (viewCalls calls)) (ended (Stopped Not (viewPending rest)) end [] (i .0) (front, λ l. er));
-          answers = omega (arith, g .spent);
-          within = (omega (arith, g .within .0, i .0), i .1);
-          some = λ m r. omega (arith, g .within .0, more, none);
-          form = λ f. fr;
-        }
-
-    module _ (found : end < length piece) (space : longest ≤ left) (empty : Pending) (ek : viewPending empty ≡ []) (fk : pendingForm empty ≡ true) where
-      front : hasEnd (between used end piece) ≡ false
-      front = rw ee (end-front used piece)
-
-      line : between used (end + 1) piece ≡ between used end piece ++ (newline ∷ [])
-      line = ended-line used end piece ee (omega (arith, more)) found
-
-      -- a line that says no call
-      pub gather-fault : (r : Refusal) → viewSaid (said.Faulty r) ≡ said (viewPending kept ++ between used end piece)
-          → Gathers first piece from room (record { calls = calls; pending = empty; used = end + 1; stop = Faulty r })
-      gather-fault r h =
-          let i = line-inside in
-          record {
-            lines = subst (λ cs. Lines (Stopped (Faulty r) (viewPending empty)) (viewPending first) (between from (end + 1) piece) cs) (append-nil (viewCalls calls)) (ended (Stopped (Faulty r) (viewPending empty)) (end + 1) [] (omega (arith, i .0)) (between used end piece, (line, (front, (sym h, ek)))));
-            answers = omega (arith, g .spent, space);
-            within = (omega (arith, g .within .0, i .0), omega (arith, found));
-            some = λ m s. omega (arith, g .within .0, i .0);
-            form = λ f. fk;
-          }
-
-      -- a line that says a call, which is put last
-      pub gather-call : (c : Call) → viewSaid (said.Says c) ≡ said (viewPending kept ++ between used end piece) → calls .count < listLimit
-          → Gathering first piece from room (withLast calls c) empty (end + 1) (left - longest)
-      gather-call c h n =
-          let i = line-inside in
-          let en = put-last calls c (g .entries) n in
-          let e : length (viewCalls (withLast calls c)) ≡ length (viewCalls calls) + 1 = rw en (length-append (viewCalls calls) (c ∷ [])) in
-          record {
-            lines = rw en (ended (Left (viewPending empty)) (end + 1) (c ∷ []) (omega (arith, i .0)) (between used end piece, ([], (line, (front, (sym h, (refl, ek)))))));
-            spent = omega (arith, g .spent, space, e);
-            within = (omega (arith, g .within .0, i .0), omega (arith, found));
-            begun = λ z. absurd (omega (arith, z, g .within .0, i .0));
-            entries = length-set (calls .items) (calls .count) (record { call = c }) ∙ g .entries;
-            few = omega (arith, n);
-            form = λ f. fk;
-          }

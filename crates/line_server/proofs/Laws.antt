@@ -151,9 +151,9 @@ feed-end s piece lent out t f all some = (
 
 -- ── the end of input ──
 -- a number that is not 0 is 1 or more
-byOne : (n : ℕ) → (n ≡ 0 → _≡_ {A = ℕ} 1 0) → 1 ≤ n
-byOne zero h = absurd (omega (arith, h refl))
-byOne (suc n) h = omega arith
+pub some-of : (n : ℕ) → (n ≡ 0 → ⊥) → 0 < n
+some-of zero h = absurd (h refl)
+some-of (suc n) h = omega arith
 
 module _ (s : Server) (e : Bool) (ee : e ≡ isEmpty (viewPending (s .pending))) where
   pub no-last : e ≡ true → (lent : List ℕ) → (longest ≤ length lent → keptServer s ≡ true → Finished s lent (record { plant = s .plant; pending = s .pending; used = 0; wrote = 0 }))
@@ -171,7 +171,7 @@ module _ (s : Server) (e : Bool) (ee : e ≡ isEmpty (viewPending (s .pending)))
   last-line h lent out t f w some r k =
       let x = f k in
       let v = viewPending (s .pending) in
-      let all : take (t .used) (newline ∷ []) ≡ newline ∷ [] = take-all (t .used) (newline ∷ []) (byOne (t .used) (some r)) in
+      let all : take (t .used) (newline ∷ []) ≡ newline ∷ [] = take-all (t .used) (newline ∷ []) (some-of (t .used) (λ z. let e = some r z in omega (arith, e))) in
       let one : complete (v ++ take (t .used) (newline ∷ [])) ≡ v ∷ [] = ap (λ l. complete (v ++ l)) all ∙ end-complete v [] (opened s k .free) refl [] ∙ ap (λ l. l ∷ []) (append-nil v) in
       let last : lastLine v ≡ v ∷ [] = rw (← ee, h) refl in
       let none : take lineLimit (unended (v ++ take (t .used) (newline ∷ []))) ≡ [] = ap (λ l. take lineLimit (unended (v ++ l))) all ∙ ap (take lineLimit) (end-unended v [] (opened s k .free) refl []) in

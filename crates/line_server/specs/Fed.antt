@@ -1,6 +1,6 @@
 -- What a server promises. Where it keeps the rules, the lines that a piece ends are served, and of the line that is not ended the first
 -- bytes are kept; of any server form is kept, and where too few bytes are lent nothing is done.
-use Prim.Native.Nat.{_+_, _<_, _≤_, ℕ}
+use Prim.Native.Nat.{_≤_, ℕ}
 use mathlib.Core.Path.{_≡_}
 use mathlib.Core.Bool.{Bool, _&&_, not, true}
 use mathlib.Core.List.{List, []}
@@ -9,7 +9,6 @@ use lib.Dec.{leb}
 use Rattle.line_format.specs.Bytes.{lineLimit}
 use Rattle.line_format.specs.Serving.{Serves}
 use Rattle.line_format.specs.Feeding.{hasEnd, lastLine, Feeds}
-use Rattle.line_print.specs.Line.{longest}
 use Rattle.plant.specs.View.{viewPlant, plantForm, keptPlant}
 use Rattle.line_pending.specs.View.{viewPending, pendingForm, between}
 use Rattle.line_server.specs.declared.Server.{Server}
@@ -25,10 +24,6 @@ Within s piece out = (s .used ≤ length piece) × (s .wrote ≤ length out)
 -- the bytes lent past those filled are as they were
 abbrev pub Past : Server → List ℕ → List ℕ → Type 0
 Past s lent out = drop (s .wrote) out ≡ drop (s .wrote) lent
-
--- a piece is left, and room for an answer
-abbrev pub Ready : Server → List ℕ → List ℕ → Type 0
-Ready s piece out = (s .used < length piece) × (s .wrote + longest ≤ length out)
 
 -- a part of the piece, served into the bytes after those filled
 pub record Next (s : Server) (piece lent out : List ℕ) (t : Server) : Type 0 where

@@ -1,4 +1,3 @@
--- What a server promises, of one piece and of a whole input, and of the lines that it gathers.
+-- What a server promises, of one piece and of a whole input.
 pub mod Fed
 pub mod Input
-pub mod Gathers

@@ -1,21 +1,17 @@
 // A server of lines: it takes input in pieces of any size, answers each line once byte 10 has ended it, and keeps of a line that is not
 // ended its first bytes.
-ghost use Prim.Native.Nat.{_+_, _*_, _<_, _≤_};
+ghost use Prim.Native.Nat.{_+_, _<_, _≤_};
 ghost use mathlib.Core.Path.{_≡_};
 ghost use mathlib.Core.Bool.{true};
 ghost use mathlib.Core.List.{[], _++_};
-ghost use lib.ListN.{length, take};
+ghost use lib.ListN.{length};
 ghost use Rattle.rules.specs.Tables.{setup};
 ghost use Rattle.line_format.specs.Lines.{said};
 ghost use Rattle.line_print.specs.Line.{longest};
 ghost use Rattle.plant.specs.View.{viewPlant};
 ghost use Rattle.line_pending.specs.View.{viewPending, between};
 ghost use Rattle.line_parse.specs.View.{viewSaid};
-ghost use Rattle.line_answer.specs.Answered.{Put, toldLines};
-ghost use Rattle.line_server.specs.Gathers.{Gathers, stops, stopLine};
 ghost use Rattle.line_server.specs.Fed.{keptServer, Within, Past, Fed, Finished, Untouched, FormKept};
-use answers::Refusal;
-use call_read::Seen;
 use calls::Calls;
 use calls::Item;
 use line_parse::Said;
@@ -61,85 +57,9 @@ fn heard(kept: Pending, piece: &[u8], from: usize, to: usize) -> Said
     line_parse::parse(&bytes[..len])
 }
 
-// Whether a line that says no call ended the gathering.
-enum Stop {
-    Faulty(Refusal),
-    Not,
-}
-
-// The calls of lines in their order, what is kept of a line that is not ended, and how far the piece is used.
-struct Gathered {
-    calls: Calls,
-    pending: Pending,
-    used: usize,
-    stop: Stop,
-}
-
-// The calls that the piece's lines say from a position on: no more than a list holds or than there is room for answers, and up to a line that says none.
-fn gather(first: Pending, piece: &[u8], from: usize, room: usize) -> Gathered
-    requires { ⌜ from ≤ length (now piece) ⌝ }
-    ensures { λ r. ⌜ Gathers first (now (piece .entry)) from room r ⌝ }
-{
-    let mut calls = Calls::none();
-    let mut kept = first;
-    let mut used = from;
-    let mut left = room;
-    while used < piece.len() {
-        let at = calls.count as usize;
-        if left < line_print::LONGEST || Calls::LIMIT <= at {
-            break;
-        }
-        let end = line_pending::line_end(piece, used);
-        if piece.len() <= end {
-            let pending = kept.add(piece, used, end);
-            return Gathered {
-                calls,
-                pending,
-                used: end,
-                stop: Stop::Not,
-            };
-        }
-        let said = heard(kept, piece, used, end);
-        kept = Pending::empty();
-        used = end + 1;
-        left -= line_print::LONGEST;
-        match said {
-            Said::Says(c) => {
-                calls.items[at] = Item { call: c };
-                calls.count = calls.count + 1;
-            }
-            Said::Faulty(r) => {
-                return Gathered {
-                    calls,
-                    pending: kept,
-                    used,
-                    stop: Stop::Faulty(r),
-                };
-            }
-        }
-    }
-    Gathered {
-        calls,
-        pending: kept,
-        used,
-        stop: Stop::Not,
-    }
-}
-
-// The answers to calls that were run, and to the line that ended the gathering if it says none.
-fn reply(n: usize, seen: [Seen; Calls::LIMIT], stop: Stop, out: &mut [u8]) -> usize
-    ensures within { λ r. ⌜ r ≤ length (now (out .entry)) ⌝ }
-    ensures lines { λ r. ⌜ (longest * (length (take n seen) + stops stop) ≤ length (now (out .entry)) → Put (longest * (length (take n seen) + stops stop)) (toldLines (take n seen) ++ stopLine stop) (now (out .entry)) (now (out .exit)) r) ⌝ }
-{
-    let wrote = line_answer::tell_all(n, seen, out);
-    match stop {
-        Stop::Faulty(r) => wrote + line_answer::refuse(r, &mut out[wrote..]),
-        Stop::Not => wrote,
-    }
-}
-
-// Takes the piece as far as there is room for its answers, and nothing of it where too few bytes are lent for any: gathers the calls of some
-// lines, runs them, and prints what they answered.
+// Takes the piece as far as there is room for its answers, and nothing of it where too few bytes are lent for any. The calls that lines say go into
+// a list, until it is full or there is no room left for the longest answer to each, or until no line follows that says a call. Then it is run and
+// what its calls were told is printed. A line that says no call, and the rest of a piece, are taken when the list is empty.
 pub fn feed(s: Server, piece: &[u8], out: &mut [u8]) -> Server
     ensures feeds { λ r. ⌜ (keptServer s ≡ true → Fed s (now (piece .entry)) (now (out .exit)) r) ⌝ }
     ensures within { λ r. ⌜ Within r (now (piece .entry)) (now (out .entry)) ⌝ }
@@ -151,11 +71,47 @@ pub fn feed(s: Server, piece: &[u8], out: &mut [u8]) -> Server
 {
     let mut p = s.plant;
     let mut kept = s.pending;
+    let mut calls = Calls::none();
     let mut used: usize = 0;
     let mut wrote: usize = 0;
-    while used < piece.len() {
-        let room = out.len() - wrote;
-        if room < line_print::LONGEST {
+    let mut room = out.len();
+    let mut words = [0i32; line_print::WORDS * Calls::LIMIT];
+    loop {
+        let at = calls.count as usize;
+        if used < piece.len() && line_print::LONGEST <= room && at < Calls::LIMIT {
+            let end = line_pending::line_end(piece, used);
+            if end < piece.len() {
+                let said = heard(kept, piece, used, end);
+                match said {
+                    Said::Says(c) => {
+                        calls.items[at] = Item { call: c };
+                        calls.count = calls.count + 1;
+                        kept = Pending::empty();
+                        used = end + 1;
+                        room -= line_print::LONGEST;
+                        continue;
+                    }
+                    Said::Faulty(r) => {
+                        if at == 0 {
+                            wrote += line_answer::refuse(r, &mut out[wrote..]);
+                            kept = Pending::empty();
+                            used = end + 1;
+                            room = out.len() - wrote;
+                            continue;
+                        }
+                    }
+                }
+            } else if at == 0 {
+                let pending = kept.add(piece, used, end);
+                return Server {
+                    plant: p,
+                    pending,
+                    used: end,
+                    wrote,
+                };
+            }
+        }
+        if at == 0 {
             return Server {
                 plant: p,
                 pending: kept,
@@ -163,21 +119,12 @@ pub fn feed(s: Server, piece: &[u8], out: &mut [u8]) -> Server
                 wrote,
             };
         }
-        let g = gather(kept, piece, used, room);
-        let calls = g.calls;
-        let o = entry::run_all(p, calls, line_print::WORDS);
-        let seen = o.seen;
-        let stop = g.stop;
+        let o = entry::run_all(p, calls, line_print::WORDS, &mut words);
+        let told = o.told;
         p = o.plant;
-        kept = g.pending;
-        used = g.used;
-        wrote += reply(o.count, seen, stop, &mut out[wrote..]);
-    }
-    Server {
-        plant: p,
-        pending: kept,
-        used,
-        wrote,
+        calls.count = 0;
+        wrote += line_answer::tell_all(o.count, told, &words, &mut out[wrote..]);
+        room = out.len() - wrote;
     }
 }
 

@@ -19,11 +19,8 @@ push-requires c κs = search needs
 run-all-requires : tie.Need-run-all-requires
 run-all-requires c κs = search needs
 
-element-copy-out-o : tie.Need-element-copy-out-o
-element-copy-out-o c = search needs
-
-fill-requires : tie.Need-fill-requires
-fill-requires c κs = search needs
+element-copy-out-t : tie.Need-element-copy-out-t
+element-copy-out-t c = search needs
 
 same-length : tie.Need-same-length
 same-length c = search needs
@@ -34,11 +31,11 @@ first l c e = rw e refl
 
 returns : tie.Need-returns
 returns c =
-    let all = c .before .before .before .before .before in
-    let given = all .before .before .before .args in
-    let one = all .before .push .ensures ∙ first _ (given .c) (all .before .before .none .ensures .0) in
-    promised _ _ (given .p) _ _ (ran-one _ (given .p) _ _ one (all .run-all .result .count) (all .run-all .result .seen) (all .run-all .result .plant) (all .run-all .ensures .0) _ (now (given .words)) refl) _
-    (c .before .before .fill .ensures)
+    let all = c .before .before .before in
+    let given = all .before .before .before .before .args in
+    let one = all .before .before .push .ensures ∙ first _ (given .c) (all .before .before .before .none .ensures .0) in
+    let r = all .run-all .result in
+    promised (given .c) (now (given .words)) (given .p) _ _ (r .plant) (search (all .run-all, needs)) (ran-one _ (given .p) _ _ one (r .count) (r .told) _ _ (r .plant) (all .run-all .ensures .0) _)
 
 pub run-spec : {M : Type 1} → statement M
-run-spec = tie.close (tie.spec none-requires push-requires run-all-requires element-copy-out-o fill-requires same-length returns)
+run-spec = tie.close (tie.spec none-requires push-requires run-all-requires element-copy-out-t same-length returns)

@@ -2,7 +2,7 @@
 use Rattle.calls.proofs.Back.{back1, back2, back4, back10}
 use Rattle.answers.specs.declared.Answer.the-variants.{Done}
 use Rattle.entry_parts.proofs.Laws.{plainly, not-plain}
-use Rattle.calls.specs.declared.Call.the-variants.{Load, Map, Commit, Abandon, Advance, Take, Apply, Delete, Cut, Store, Report}
+use Rattle.calls.specs.declared.Call.the-variants.{Load, Map, Advance, Take, Apply, Delete, Cut, Store}
 use borrow.Author.Needs.{needs}
 use Rattle.entry_parts.proofs.plain.Statement.{statement}
 use Rattle.entry_parts.proofs.plain.Tie as tie
@@ -55,35 +55,17 @@ enum-known-c-7 c = search needs
 answer-requires-8 : tie.Need-answer-requires-8
 answer-requires-8 c κs = search needs
 
-enum-known-c-8 : tie.Need-enum-known-c-8
-enum-known-c-8 c = search needs
+enum-told-2 : tie.Need-enum-told-2
+enum-told-2 c = search needs
 
 answer-requires-9 : tie.Need-answer-requires-9
 answer-requires-9 c κs = search needs
 
-enum-known-c-9 : tie.Need-enum-known-c-9
-enum-known-c-9 c = search needs
+enum-known-c-8 : tie.Need-enum-known-c-8
+enum-known-c-8 c = search needs
 
 answer-requires-10 : tie.Need-answer-requires-10
 answer-requires-10 c κs = search needs
-
-enum-told-2 : tie.Need-enum-told-2
-enum-told-2 c = search needs
-
-answer-requires-11 : tie.Need-answer-requires-11
-answer-requires-11 c κs = search needs
-
-enum-known-c-10 : tie.Need-enum-known-c-10
-enum-known-c-10 c = search needs
-
-answer-requires-12 : tie.Need-answer-requires-12
-answer-requires-12 c κs = search needs
-
-enum-known-c-11 : tie.Need-enum-known-c-11
-enum-known-c-11 c = search needs
-
-answer-requires-13 : tie.Need-answer-requires-13
-answer-requires-13 c κs = search needs
 
 returns : tie.Need-returns
 returns c = plainly (c .before .before .before .before .args .p) _ _ (back4 Load _ _ _ _ (c .before .before .c .given .1) (search needs) (search needs) (search needs) (search needs)) (c .answer .result) (c .answer .ensures)
@@ -95,37 +77,28 @@ returns-3 : tie.Need-returns-3
 returns-3 c = plainly (c .before .before .before .args .p) _ _ (c .before .enum-told .given .1) (c .answer3 .result) (c .answer3 .ensures)
 
 returns-4 : tie.Need-returns-4
-returns-4 c = plainly (c .before .before .before .before .args .p) _ _ (back1 Commit _ (c .before .before .c3 .given .1) (search needs)) (c .answer4 .result) (c .answer4 .ensures)
+returns-4 c = plainly (c .before .before .before .before .args .p) _ _ (back1 Advance _ (c .before .before .c3 .given .1) (search needs)) (c .answer4 .result) (c .answer4 .ensures)
 
 returns-5 : tie.Need-returns-5
-returns-5 c = plainly (c .before .before .before .before .args .p) _ _ (back1 Abandon _ (c .before .before .c4 .given .1) (search needs)) (c .answer5 .result) (c .answer5 .ensures)
+returns-5 c = plainly (c .before .before .before .before .args .p) _ _ (back1 Take _ (c .before .before .c4 .given .1) (search needs)) (c .answer5 .result) (c .answer5 .ensures)
 
 returns-6 : tie.Need-returns-6
-returns-6 c = plainly (c .before .before .before .before .args .p) _ _ (back1 Advance _ (c .before .before .c5 .given .1) (search needs)) (c .answer6 .result) (c .answer6 .ensures)
+returns-6 c = plainly (c .before .before .before .before .args .p) _ _ (back2 Apply _ _ (c .before .before .c5 .given .1) (search needs) (search needs)) (c .answer6 .result) (c .answer6 .ensures)
 
 returns-7 : tie.Need-returns-7
-returns-7 c = plainly (c .before .before .before .before .args .p) _ _ (back1 Take _ (c .before .before .c6 .given .1) (search needs)) (c .answer7 .result) (c .answer7 .ensures)
+returns-7 c = plainly (c .before .before .before .before .args .p) _ _ (back1 Delete _ (c .before .before .c6 .given .1) (search needs)) (c .answer7 .result) (c .answer7 .ensures)
 
 returns-8 : tie.Need-returns-8
-returns-8 c = plainly (c .before .before .before .before .args .p) _ _ (back2 Apply _ _ (c .before .before .c7 .given .1) (search needs) (search needs)) (c .answer8 .result) (c .answer8 .ensures)
+returns-8 c = plainly (c .before .before .before .before .args .p) _ _ (back1 Cut _ (c .before .before .c7 .given .1) (search needs)) (c .answer8 .result) (c .answer8 .ensures)
 
 returns-9 : tie.Need-returns-9
-returns-9 c = plainly (c .before .before .before .before .args .p) _ _ (back1 Delete _ (c .before .before .c8 .given .1) (search needs)) (c .answer9 .result) (c .answer9 .ensures)
+returns-9 c = plainly (c .before .before .before .args .p) _ _ (c .before .enum-told2 .given .1) (c .answer9 .result) (c .answer9 .ensures)
 
 returns-10 : tie.Need-returns-10
-returns-10 c = plainly (c .before .before .before .before .args .p) _ _ (back1 Cut _ (c .before .before .c9 .given .1) (search needs)) (c .answer10 .result) (c .answer10 .ensures)
+returns-10 c = plainly (c .before .before .before .before .args .p) _ _ (back1 Store _ (c .before .before .c8 .given .1) (search needs)) (c .answer10 .result) (c .answer10 .ensures)
 
 returns-11 : tie.Need-returns-11
-returns-11 c = plainly (c .before .before .before .args .p) _ _ (c .before .enum-told2 .given .1) (c .answer11 .result) (c .answer11 .ensures)
-
-returns-12 : tie.Need-returns-12
-returns-12 c = plainly (c .before .before .before .before .args .p) _ _ (back1 Store _ (c .before .before .c10 .given .1) (search needs)) (c .answer12 .result) (c .answer12 .ensures)
-
-returns-13 : tie.Need-returns-13
-returns-13 c = plainly (c .before .before .before .before .args .p) _ _ (back1 Report _ (c .before .before .c11 .given .1) (search needs)) (c .answer13 .result) (c .answer13 .ensures)
-
-returns-14 : tie.Need-returns-14
-returns-14 c = not-plain (c .before .args .p) (c .before .args .c) Done (c .match .keys14)
+returns-11 c = not-plain (c .before .args .p) (c .before .args .c) Done (c .match .keys11)
 
 pub plain-spec : {M : Type 1} → statement M
 plain-spec =
@@ -147,16 +120,10 @@ plain-spec =
     answer-requires-7
     enum-known-c-7
     answer-requires-8
-    enum-known-c-8
-    answer-requires-9
-    enum-known-c-9
-    answer-requires-10
     enum-told-2
-    answer-requires-11
-    enum-known-c-10
-    answer-requires-12
-    enum-known-c-11
-    answer-requires-13
+    answer-requires-9
+    enum-known-c-8
+    answer-requires-10
     returns
     returns-2
     returns-3
@@ -167,7 +134,4 @@ plain-spec =
     returns-8
     returns-9
     returns-10
-    returns-11
-    returns-12
-    returns-13
-    returns-14)
+    returns-11)
