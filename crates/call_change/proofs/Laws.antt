@@ -135,14 +135,19 @@ module _ (p : Plant) (k : keptPlant p ≡ true) (cs : List C.Update) (c : C.Upda
   as-seen : (x y : Option Refusal) → first (x ∷ y ∷ unknown ∷ meets c (seen (viewPlant p) cs (c .at)) ∷ []) ≡ first (x ∷ y ∷ unknown ∷ meets c (value (viewPlant p) cs (c .at)) ∷ [])
   as-seen x y = first-under x y (unknown ∷ meets c (seen (viewPlant p) cs (c .at)) ∷ []) (unknown ∷ meets c (value (viewPlant p) cs (c .at)) ∷ []) found
 
+-- the change of four numbers: whether they are in their range, and then which it is
+pub in-range : (d f k v : ℤ) → SFits w64 d → SFits w64 f → SFits w64 k → SFits w64 v → (c : Update) → not (eqb (c .kind) 0) ≡ (goodPlace (held d) (held f) && goodChange (held k) (held v)) → not (eqb (c .kind) 0) ≡ (goodPlace d f && goodChange k v)
+in-range d f k v fd ff fk fv c eg = rw (toZ-ofZ fd, toZ-ofZ ff, toZ-ofZ fk, toZ-ofZ fv) at eg
+
+pub update-is : (d f k v : ℤ) → SFits w64 d → SFits w64 f → SFits w64 k → SFits w64 v → (c : Update) → (goodPlace (held d) (held f) && goodChange (held k) (held v) ≡ true → viewUpdate c ≡ updateOf (placeOf (held d) (held f)) (natOf (held k)) (held v))
+    → goodPlace d f && goodChange k v ≡ true → viewUpdate c ≡ updateOf (placeOf d f) (natOf k) v
+update-is d f k v fd ff fk fv c ec = rw (toZ-ofZ fd, toZ-ofZ ff, toZ-ofZ fk, toZ-ofZ fv) at ec
+
 module _ (p : Plant) (z d f k v : ℤ) (fd : SFits w64 d) (ff : SFits w64 f) (fk : SFits w64 k) (fv : SFits w64 v)
     (c : Update) (eg : not (eqb (c .kind) 0) ≡ (goodPlace (held d) (held f) && goodChange (held k) (held v)))
     (ec : goodPlace (held d) (held f) && goodChange (held k) (held v) ≡ true → viewUpdate c ≡ updateOf (placeOf (held d) (held f)) (natOf (held k)) (held v)) where
-  pub good-is : not (eqb (c .kind) 0) ≡ (goodPlace d f && goodChange k v)
-  good-is = rw (toZ-ofZ fd, toZ-ofZ ff, toZ-ofZ fk, toZ-ofZ fv) at eg
-
-  pub update-is : goodPlace d f && goodChange k v ≡ true → viewUpdate c ≡ updateOf (placeOf d f) (natOf k) v
-  update-is = rw (toZ-ofZ fd, toZ-ofZ ff, toZ-ofZ fk, toZ-ofZ fv) at ec
+  good-is : not (eqb (c .kind) 0) ≡ (goodPlace d f && goodChange k v)
+  good-is = in-range d f k v fd ff fk fv c eg
 
   good : (c .kind ≡ 0 → ⊥) → goodPlace d f && goodChange k v ≡ true
   good h = sym good-is ∙ ap not (ne-eqb (c .kind) 0 h)
@@ -179,7 +184,7 @@ module _ (p : Plant) (z d f k v : ℤ) (fd : SFits w64 d) (ff : SFits w64 f) (fk
     found-later g r er a =
         let o = is-open (p .sessions) n who j t et g in
         let mine : changes n ≡ viewChanges (who .session .changes) = ap (λ (x : M.Session). x .changes) (sym (j .shows)) in
-        at-number r (er ∙ rw (good h, o .0, o .1, mine, a, update-is (good h)) refl)
+        at-number r (er ∙ rw (good h, o .0, o .1, mine, a, update-is d f k v fd ff fk fv c ec (good h)) refl)
 
   module _ (lent : List ℤ) (kept : keptPlant p ≡ true) where
     abbrev Answered : A.Answer → Type 0
@@ -217,6 +222,6 @@ module _ (p : Plant) (z d f k v : ℤ) (fd : SFits w64 d) (ff : SFits w64 f) (fk
             ∙ answers-by (Change z d f k v) lent (chosen (viewPlant p)) (viewPlant p) (suc (length (viewChanges (who .session .changes))) ∷ []) (rw own-is refl)
             (first (laterConditions (viewPlant p) n (viewChanges (who .session .changes)) (viewUpdate c)))
             (stands asks p kept z fz n e who j t et lent g
-            ∙ rw (own-is, its-number p kept z fz n e who j t et g, update-is (good h))
+            ∙ rw (own-is, its-number p kept z fz n e who j t et g, update-is d f k v fd ff fk fv c ec (good h))
             (as-seen p kept (viewChanges (who .session .changes)) (updateOf (placeOf d f) (natOf k) v) at-place
             (leb changeLimit (length (viewChanges (who .session .changes))) ⇒ changesFull) (M.othersExclusive n (natOf d) (viewSessions (p .sessions)) ⇒ exclusiveElsewhere)))

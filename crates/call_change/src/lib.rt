@@ -3,7 +3,10 @@ ghost use mathlib.Core.Path.{_≡_};
 ghost use mathlib.Core.Bool.{true, false, not, _&&_, _||_};
 ghost use mathlib.Core.List.{List, [], _∷_};
 ghost use lib.IntN.{ℤ};
-ghost use Rattle.rules.specs.Changes.{isSet, kindOf, meets};
+ghost use Rattle.rules.specs.Values.{natOf};
+ghost use Rattle.rules.specs.Changes.{isSet, kindOf, meets, placeOf, updateOf};
+ghost use Rattle.rules.specs.Conditions.{goodPlace, goodChange};
+ghost use Rattle.changes.specs.Form.{isUsed};
 ghost use Rattle.rules.specs.Calls.{Change};
 ghost use Rattle.rules.specs.Reading.{knownAway};
 ghost use Rattle.keys.specs.View.{viewPlace, viewKeys};
@@ -119,14 +122,29 @@ pub fn answer(p: Plant, session: i64, document: i64, field: i64, kind: i64, valu
     )
 }
 
+// The change of four numbers, and where one of them is out of its range some change: that is asked for of no call, and a table of sessions given back
+// as it was besides would have it copied once more.
+fn made(document: i64, field: i64, kind: i64, value: i64) -> Update
+    ensures shows { λ r. ⌜ (goodPlace document field && goodChange kind value ≡ true → viewUpdate r ≡ updateOf (placeOf document field) (natOf kind) value) ⌝ }
+    ensures form { λ r. ⌜ isUsed r ≡ true ⌝ }
+{
+    let c = arguments::change::update(document, field, kind, value);
+    if c.kind == 0 {
+        let place = c.place;
+        return Update {
+            place,
+            kind: Update::SET,
+            value: 0,
+        };
+    }
+    c
+}
+
 pub fn after(p: Plant, session: i64, document: i64, field: i64, kind: i64, value: i64) -> Sessions
     ensures shows { λ r. ⌜ Performs (Change session document field kind value) p (withSessions p r) ⌝ }
     ensures form { λ r. ⌜ (plantForm p ≡ true → plantForm (withSessions p r) ≡ true) ⌝ }
 {
-    let c = arguments::change::update(document, field, kind, value);
-    if c.kind == 0 {
-        return p.sessions;
-    }
+    let c = made(document, field, kind, value);
     let n = arguments::session(session);
     p.sessions.changed(n, c, p.clock)
 }
