@@ -122,8 +122,8 @@ pub fn answer(p: Plant, session: i64, document: i64, field: i64, kind: i64, valu
     )
 }
 
-// The change of four numbers, and where one of them is out of its range some change: that is asked for of no call, and a table of sessions given back
-// as it was besides would have it copied once more.
+// The change of four numbers; where one of them is out of its range, which the answer refuses, some change that is in form. A `return` of the
+// sessions in that case would have their table copied once more in every other.
 fn made(document: i64, field: i64, kind: i64, value: i64) -> Update
     ensures shows { λ r. ⌜ (goodPlace document field && goodChange kind value ≡ true → viewUpdate r ≡ updateOf (placeOf document field) (natOf kind) value) ⌝ }
     ensures form { λ r. ⌜ isUsed r ≡ true ⌝ }

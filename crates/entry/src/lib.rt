@@ -15,7 +15,7 @@ use calls::Call;
 use calls::Calls;
 use plant::Plant;
 
-// What a call answered, and how many of the words lent to it it shows.
+// What a call answered, and how many words it shows, of those lent to it.
 pub struct Told {
     pub answer: Answer,
     pub shown: usize,
@@ -29,9 +29,9 @@ pub struct Outcomes {
     pub told: [Told; Calls::LIMIT],
 }
 
-// Runs calls one after the other, and lends each the next `share` of the words, as far as there are any. The plant lies here: calls are asked where it lies and their
-// tables are written in place, because a plant that goes through a function is copied. What a read shows is kept for the cache, and not worked
-// out again.
+// Runs calls one after the other, and lends each the next `share` of the words, as far as there are any. The plant lies here: calls are asked where
+// it lies and their tables are written in place, because a plant that goes through a function is copied. What a read shows is kept for the
+// cache, and not worked out again.
 pub fn run_all(mut p: Plant, calls: Calls, share: usize, words: &mut [i32]) -> Outcomes
     ensures runs { λ r. ⌜ RanAll share p (viewCalls calls) (take (r .count) (r .told)) (now (words .entry)) (now (words .exit)) (r .plant) ⌝ }
     ensures counts { λ r. ⌜ r .count ≡ length (viewCalls calls) ⌝ }
