@@ -13,7 +13,7 @@ use Rattle.rules.specs.Changes as C
 use Rattle.rules.specs.Reading as D
 use Rattle.rules.specs.Effects.{inDocuments, stays}
 use Rattle.rules.proofs.Laws.{both}
-use Rattle.rules.proofs.Tests.{all-dropAt}
+use Rattle.rules.proofs.Tests.{all-dropAt, keep-all}
 use Rattle.docset.specs.Sets.{docs}
 use Rattle.docset.proofs.SetLaws.{docs-none}
 use Rattle.keys.specs.View.{viewPlace, viewKey, viewKeys}
@@ -135,10 +135,6 @@ module _ (t : Cache) (n : ℕ) (a : n ≡ length (viewCache t)) where
         }))
 
 -- ── without the documents of no set ──
-keep-all : {A : Type 0} (p : A → Bool) (l : List A) → ((x : A) → p x ≡ true) → l ≡ keep p l
-keep-all p [] h = refl
-keep-all p (x ∷ l) h = rw (h x) (ap (λ r. x ∷ r) (keep-all p l h))
-
 pub none-lost : (t : Cache) (keys : Keys) (lost : ℕ) → lost ≡ 0 → viewCache t ≡ keep (stays (docs lost) (viewKeys keys)) (viewCache t)
 unfolding stays inDocuments
 none-lost t keys lost e =

@@ -120,9 +120,9 @@ module _ (p : Plant) (h : keptPlant p ≡ true) (n k : ℕ) (lent : List ℤ) (m
   unfolding conditions
   fields-are = shown-is (viewPlant p) (kept-parts p h) n k in-range (not-met _ storeAway (m .1 .1 .1 .1 .1 .1 .0))
 
-  cache-are : cacheBy (mark n k (viewPlant p)) 0 (record { key = k; fields = shownFields n k (viewPlant p) }) (viewPlant p .cache) ≡ afterRead n k (chosen (viewPlant p)) (viewPlant p) .cache
-  unfolding conditions afterRead chosen
-  cache-are = cache-is (viewPlant p) (kept-parts p h) n k in-range (not-met _ storeAway (m .1 .1 .1 .1 .1 .1 .0)) (chosen (viewPlant p)) refl
+  cache-are : cacheBy (mark n k (viewPlant p)) (record { key = k; fields = shownFields n k (viewPlant p) }) (viewPlant p .cache) ≡ afterRead n k (viewPlant p) .cache
+  unfolding conditions afterRead
+  cache-are = cache-is (viewPlant p) (kept-parts p h) n k in-range (not-met _ storeAway (m .1 .1 .1 .1 .1 .1 .0))
 
   words-are : (fs : List S.Field) → fs ≡ shownFields n k (viewPlant p) → shownIn fs lent ≡ accepted (Read (pos n) (pos k)) lent (chosen (viewPlant p)) (viewPlant p) .words
   unfolding conditions accepted shownIn
@@ -213,16 +213,16 @@ module _ (p : Plant) (z : ℤ) (fz : SFits w64 z) (n : ℕ) (en : n ≡ sessionN
   pub shown-so : (m : Marked) → viewMark (m .mark) ≡ mark n k (looked p n k) → viewCached (m .fields) ≡ record { key = k; fields = shownFields n k (looked p n k) } → Shows z y p m
   shown-so m em ef = (em ∙ same-mark p n k ∙ ap₂ (λ a b. mark a b (viewPlant p)) (session-is z fz n en) (indexed-is y fy keyCount k ek), ef ∙ ap (λ fs. record { key = k; fields = fs }) (same-fields p n k) ∙ ap₂ (λ a b. record { key = b; fields = shownFields a b (viewPlant p) }) (session-is z fz n en) (indexed-is y fy keyCount k ek))
 
-  caches-so : (m : Marked) → Shows z y p m → cacheBy (viewMark (m .mark)) 0 (viewCached (m .fields)) (viewCache (p .cache)) ≡ cacheBy (mark n k (viewPlant p)) 0 (record { key = k; fields = shownFields n k (viewPlant p) }) (viewCache (p .cache))
+  caches-so : (m : Marked) → Shows z y p m → cacheBy (viewMark (m .mark)) (viewCached (m .fields)) (viewCache (p .cache)) ≡ cacheBy (mark n k (viewPlant p)) (record { key = k; fields = shownFields n k (viewPlant p) }) (viewCache (p .cache))
   caches-so m s =
-      ap₂ (λ x c. cacheBy x 0 c (viewCache (p .cache)))
+      ap₂ (λ x c. cacheBy x c (viewCache (p .cache)))
       (s .0 ∙ sym (ap₂ (λ a b. mark a b (viewPlant p)) (session-is z fz n en) (indexed-is y fy keyCount k ek)))
       (s .1 ∙ sym (ap₂ (λ a b. record { key = b; fields = shownFields a b (viewPlant p) }) (session-is z fz n en) (indexed-is y fy keyCount k ek)))
 
 -- ── the plant left ──
 module _ (p : Plant) (z : ℤ) (fz : SFits w64 z) (y : ℤ) (fy : SFits w64 y)
     (n : ℕ) (en : n ≡ sessionNumber (held z)) (k : ℕ) (ek : k ≡ indexNumber (held y) keyCount)
-    (m : Marked) (c : Cache) (ec : viewCache c ≡ cacheBy (viewMark (m .mark)) 0 (viewCached (m .fields)) (viewCache (p .cache))) (key : Key) (eq : viewKey key ≡ viewKeys (p .keys) k)
+    (m : Marked) (c : Cache) (ec : viewCache c ≡ cacheBy (viewMark (m .mark)) (viewCached (m .fields)) (viewCache (p .cache))) (key : Key) (eq : viewKey key ≡ viewKeys (p .keys) k)
     (s : Sessions) (es : viewSessions s ≡ M.each (onlyAt n (withSharedAt (p .clock) (within (viewKey key)))) (viewSessions (p .sessions))) where
   abbrev withRead : Plant
   withRead = left p (record { cache = c; sessions = s })

@@ -11,7 +11,6 @@ use Rattle.rules.specs.Values.{Place, inRange}
 use Rattle.rules.specs.Changes.{Update}
 use Rattle.rules.specs.Tables as M
 use Rattle.rules.specs.Reading.{current, seen, known}
-use Rattle.rules.specs.Calls.{Pick}
 use Rattle.rules.specs.Effects.{touched, mark, cacheBy, cacheAfter}
 use Rattle.rules.proofs.Laws.{byCase}
 use Rattle.rules.proofs.Tests.{all-head, all-tail}
@@ -59,10 +58,10 @@ module _ (p : M.Plant) (h : Kept p) where
         (λ b. rw (t, b) (at-fields k (p .cache) ∙ cached-fields p k h b ∙ sym (untouched-shows p (ownOf n p) (p .keys k) t)))
         (λ b. rw (t, b) worked-is))
 
-    -- what is cached of what is shown: the oldest gives way
-    pub cache-is : (pick : Pick) → pick .gives ≡ 0 → cacheBy (mark n k p) 0 (record { key = k; fields = shownFields n k p }) (p .cache) ≡ cacheAfter n k pick p
+    -- what is cached of what is shown
+    pub cache-is : cacheBy (mark n k p) (record { key = k; fields = shownFields n k p }) (p .cache) ≡ cacheAfter n k p
     unfolding cacheAfter
-    cache-is pick g =
+    cache-is =
         byCase (touched (ownOf n p) (p .keys k))
         (λ t. rw t refl)
-        (λ t. ap₂ (λ x fs. cacheBy (mark n k p) x (record { key = k; fields = fs }) (p .cache)) (sym g) (shown-is ∙ untouched-shows p (ownOf n p) (p .keys k) t))
+        (λ t. ap (λ fs. cacheBy (mark n k p) (record { key = k; fields = fs }) (p .cache)) (shown-is ∙ untouched-shows p (ownOf n p) (p .keys k) t))

@@ -1,6 +1,6 @@
 -- What a read shows and caches: one law for each way out of a function.
 use mathlib.Core.Path.{_≡_, refl, sym, _∙_, ap, ap₂}
-use mathlib.Core.Bool.{Bool, true, false, cond}
+use mathlib.Core.Bool.{Bool, true, false}
 use mathlib.Core.List.{List, [], _∷_, map}
 use Prim.Native.Nat.{ℕ, _≤_, _<_}
 use lib.Dec.{eqb}
@@ -101,20 +101,20 @@ module _ (near : Bool) (store : Store) (keys : Keys) (cache : Cache) (sessions :
 
 -- ── cached, by the mark ──
 module _ (m : Mark) (c : Cached) (cache : Cache) where
-  pub caches-one : m ≡ variant.CachedNow → (room r : Cache) → viewCache room ≡ evicted 0 (viewCache cache) → viewCache r ≡ pushed cacheLimit (viewCache room) (viewCached c)
-      → viewCache r ≡ cacheBy (viewMark m) 0 (viewCached c) (viewCache cache)
+  pub caches-one : m ≡ variant.CachedNow → (room r : Cache) → viewCache room ≡ evicted (viewCache cache) → viewCache r ≡ pushed cacheLimit (viewCache room) (viewCached c)
+      → viewCache r ≡ cacheBy (viewMark m) (viewCached c) (viewCache cache)
   caches-one e room r er q = q ∙ rw (e, er) refl
 
-  pub caches-none : m ≡ variant.FromCache → viewCache cache ≡ cacheBy (viewMark m) 0 (viewCached c) (viewCache cache)
+  pub caches-none : m ≡ variant.FromCache → viewCache cache ≡ cacheBy (viewMark m) (viewCached c) (viewCache cache)
   caches-none e = rw e refl
 
-  pub caches-own : m ≡ variant.OwnChange → viewCache cache ≡ cacheBy (viewMark m) 0 (viewCached c) (viewCache cache)
+  pub caches-own : m ≡ variant.OwnChange → viewCache cache ≡ cacheBy (viewMark m) (viewCached c) (viewCache cache)
   caches-own e = rw e refl
 
 -- ── room for one more ──
 module _ (c : Cache) (m : ℕ) (e : m ≡ length (viewCache c)) where
-  pub gives-way : (r : Cache) → cacheLimit ≤ m → viewCache r ≡ dropAt 0 (viewCache c) → viewCache r ≡ evicted 0 (viewCache c)
+  pub gives-way : (r : Cache) → cacheLimit ≤ m → viewCache r ≡ dropAt 0 (viewCache c) → viewCache r ≡ evicted (viewCache c)
   gives-way r h q = q ∙ rw (sym e, le-leb cacheLimit m h) refl
 
-  pub has-room : m < cacheLimit → viewCache c ≡ evicted 0 (viewCache c)
+  pub has-room : m < cacheLimit → viewCache c ≡ evicted (viewCache c)
   has-room h = rw (sym e, lt-leb cacheLimit m h) refl

@@ -126,9 +126,9 @@ pub fn shown(
     }
 }
 
-// Of sixteen cached keys the oldest gives way.
+// Of sixteen cached keys the first, cached longest ago, gives way.
 fn with_room(cache: Cache) -> Cache
-    ensures shows { λ r. ⌜ viewCache r ≡ evicted 0 (viewCache cache) ⌝ }
+    ensures shows { λ r. ⌜ viewCache r ≡ evicted (viewCache cache) ⌝ }
     ensures form { λ r. ⌜ (cacheForm cache ≡ true → cacheForm r ≡ true) ⌝ }
 {
     if Cache::LIMIT <= cache.len() as usize {
@@ -139,7 +139,7 @@ fn with_room(cache: Cache) -> Cache
 
 // The cached keys after a read that showed this: one more where it came neither from them nor from a change of the session's own.
 pub fn cached(cache: Cache, shown: Marked) -> Cache
-    ensures shows { λ r. ⌜ viewCache r ≡ cacheBy (viewMark (shown .mark)) 0 (viewCached (shown .fields)) (viewCache cache) ⌝ }
+    ensures shows { λ r. ⌜ viewCache r ≡ cacheBy (viewMark (shown .mark)) (viewCached (shown .fields)) (viewCache cache) ⌝ }
     ensures form { λ r. ⌜ (cachedForm (shown .fields) ≡ true → cacheForm cache ≡ true → cacheForm r ≡ true) ⌝ }
 {
     let mark = shown.mark;

@@ -4,8 +4,10 @@ use mathlib.Core.Bool.{true, true≢false}
 use mathlib.Core.List.{List, [], _++_, _∷_, map}
 use lib.ListN.{length}
 use Rattle.rules.specs.Lists.{all, isEmpty}
+use Rattle.rules.specs.Tables as M
 use Rattle.rules.specs.Calls.{Call}
 use Rattle.rules.specs.History.{History, Turn, World, turn, turns, AllAllowed, initial, emptyHistory, noteAnswer, wholeHistory}
+use Rattle.rules.specs.History as H
 use Rattle.rules.specs.Demand3 as R
 use Rattle.rules.specs.Demand3.{isFine, NoneRefused}
 use Rattle.rules.proofs.Laws.{both}
@@ -15,7 +17,7 @@ use Rattle.plant.specs.declared.Plant.{Plant}
 use Rattle.answers.specs.View.{viewAnswer}
 use Rattle.calls.specs.View.{viewCall}
 use Rattle.entry.specs.Ran.{Ran}
-use Rattle.entry.specs.Demand3.{Event, Runs, left, noted, callsOf, Drains, Holds, Demand3}
+use Rattle.entry.specs.Demand3.{Event, Runs, left, noted, callsOf, exchangesOf, Drains, Holds, Demand3}
 
 abbrev pub world : Plant → History → World
 world p h = record { plant = viewPlant p; history = h }
@@ -24,6 +26,7 @@ world p h = record { plant = viewPlant p; history = h }
 pub record Replay (p : Plant) (es : List Event) : Type 0 where
   pub ts : List Turn
   pub calls : R.callsOf ts ≡ callsOf es
+  pub exchanges : H.exchanges ts (viewPlant p) ≡ exchangesOf es
   pub allowed : AllAllowed ts (viewPlant p)
   pub ends : (h : History) → turns ts (world p h) ≡ world (left p es) (noted es h)
   pub fine : NoneRefused ts (viewPlant p) → all (λ e. isFine (viewAnswer (e .answer))) es ≡ true
@@ -36,6 +39,7 @@ more p e es r l =
     record {
       ts = t ∷ l .ts;
       calls = ap (λ cs. viewCall (e .call) ∷ cs) (l .calls);
+      exchanges = rw (sym (r .answers), sym (r .leaves), l .exchanges) refl;
       allowed = (r .allowed, subst (AllAllowed (l .ts)) (r .leaves) (l .allowed));
       ends = λ h.
           let w : turn t (world p h) ≡ world (e .plant) (noteAnswer (viewCall (e .call)) (viewAnswer (e .answer)) (e .words) h) = rw (sym (r .answers), sym (r .fills), sym (r .leaves)) refl in
@@ -47,8 +51,29 @@ more p e es r l =
     }
 
 pub replay : (p : Plant) (es : List Event) → keptPlant p ≡ true → Runs p es → Replay p es
-replay p [] k rs = record { ts = []; calls = refl; allowed = tt; ends = λ h. refl; fine = λ n. refl; keeps = k }
+replay p [] k rs = record { ts = []; calls = refl; exchanges = refl; allowed = tt; ends = λ h. refl; fine = λ n. refl; keeps = k }
 replay p (e ∷ es) k rs = let r = rs .0 k in more p e es r (replay (e .plant) es (r .keeps) (rs .1))
+
+-- from set-up on
+pub record FromSetup (p : Plant) (es : List Event) : Type 0 where
+  pub ts : List Turn
+  pub allowed : AllAllowed ts (initial .plant)
+  pub ends : turns ts initial ≡ world (left p es) (noted es emptyHistory)
+  pub exchanges : H.exchanges ts (initial .plant) ≡ exchangesOf es
+  pub keeps : keptPlant (left p es) ≡ true
+
+pub from-setup : (p : Plant) (es : List Event) → viewPlant p ≡ M.setup → keptPlant p ≡ true → Runs p es → FromSetup p es
+unfolding initial
+from-setup p es start k rs =
+    let x = replay p es k rs in
+    let begin : initial ≡ world p emptyHistory = rw start refl in
+    record {
+      ts = x .ts;
+      allowed = subst (AllAllowed (x .ts)) start (x .allowed);
+      ends = ap (turns (x .ts)) begin ∙ x .ends emptyHistory;
+      exchanges = subst (λ z. H.exchanges (x .ts) z ≡ exchangesOf es) start (x .exchanges);
+      keeps = x .keeps;
+    }
 
 -- ── the drain ──
 abbrev first : Call → List Call → Call
@@ -87,11 +112,9 @@ drains p h k d v b l prepared es e rs =
 
 -- ── the claim ──
 pub demand3 : Demand3
-unfolding initial
 demand3 p start k es rs =
-    let x = replay p es k rs in
-    let begin : initial ≡ world p emptyHistory = rw start refl in
-    let holds : R.Holds (world (left p es) (noted es emptyHistory)) = subst R.Holds (ap (turns (x .ts)) begin ∙ x .ends emptyHistory) (of-rules (x .ts) (subst (AllAllowed (x .ts)) start (x .allowed))) in
+    let x = from-setup p es start k rs in
+    let holds : R.Holds (world (left p es) (noted es emptyHistory)) = subst R.Holds (x .ends) (of-rules (x .ts) (x .allowed)) in
     record {
       firstPart = holds .firstPart;
       buffer = holds .buffer;

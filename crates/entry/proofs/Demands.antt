@@ -10,7 +10,7 @@ use Rattle.rules.specs.Tables as M
 use Rattle.rules.specs.Calls as C
 use Rattle.rules.specs.Kept.{kept}
 use Rattle.rules.specs.Step.{step}
-use Rattle.rules.specs.History.{World, AllAllowed, turns, initial, emptyHistory}
+use Rattle.rules.specs.History.{World}
 use Rattle.rules.specs.Claims as K
 use Rattle.rules.specs.Claims.{ShownBy}
 use Rattle.rules.proofs.Laws.{and-true}
@@ -29,9 +29,8 @@ use Rattle.calls.specs.View.{viewCall}
 use Rattle.calls.specs.declared.Call.{Call}
 use Rattle.calls.specs.declared.Call.the-variants.{Load, Map, Begin, Read, Change, Commit, Abandon, Advance, Take, Apply, Delete, Cut, Sweep, Store, Report}
 use Rattle.entry_parts.specs.Session.{hasSession}
-use Rattle.entry.specs.Demand3.{left, noted}
 use Rattle.entry.specs.Demands.{Unchanged, Ends, Never, EndsSession, Demand1, ReadsShow, CommitLeavesStore, Demand2}
-use Rattle.entry.proofs.Demand3.{world, replay}
+use Rattle.entry.proofs.Demand3.{from-setup}
 
 form-of : (p : Plant) → keptPlant p ≡ true → plantForm p ≡ true
 unfolding keptPlant
@@ -101,14 +100,10 @@ demand1 = record { unchanged = unchanged; threeEnds = ends-session R.wasDoomed n
 
 -- ── demand 2 ──
 reads-show : ReadsShow
-unfolding initial
 reads-show p start k es rs s y lent a ws q x ns e =
-    let l = replay p es k rs in
-    let begin : initial ≡ world p emptyHistory = rw start refl in
-    let w : turns (l .ts) initial ≡ world (left p es) (noted es emptyHistory) = ap (turns (l .ts)) begin ∙ l .ends emptyHistory in
-    let f : AllAllowed (l .ts) (initial .plant) = subst (AllAllowed (l .ts)) start (l .allowed) in
+    let l = from-setup p es start k rs in
     let Shows : World → Type 0 = λ v. (step (C.Read s y) lent (x .pick) (v .plant)) .answer ≡ C.fine ns → (step (C.Read s y) lent (x .pick) (v .plant)) .words ≡ ShownBy (v .history) s y lent in
-    x .fills ∙ subst Shows w (of-rules (l .ts) f s y lent (x .pick) ns) (sym (x .answers) ∙ e)
+    x .fills ∙ subst Shows (l .ends) (of-rules (l .ts) (l .allowed) s y lent (x .pick) ns) (sym (x .answers) ∙ e)
 
 leaves-store : CommitLeavesStore
 unfolding viewPlant

@@ -1,4 +1,4 @@
--- What a call is answered and what it leaves, calls run one after the other, and the three demands of the code.
+-- What a call is answered and what it leaves, calls run one after the other, the three demands of the code, and the order of the cached keys.
 mod Laws
 mod Asked
 mod Done
@@ -6,3 +6,4 @@ pub mod RunAll
 pub mod Demand3
 pub mod Demands
 pub mod Listed
+pub mod CacheOrder

@@ -10,7 +10,7 @@ use Rattle.rules.specs.Lists.{all}
 use Rattle.rules.specs.Limits.{workerCount}
 use Rattle.rules.specs.Tables as M
 use Rattle.rules.specs.Calls as C
-use Rattle.rules.specs.History.{History, emptyHistory, noteAnswer, wholeHistory}
+use Rattle.rules.specs.History.{History, emptyHistory, noteAnswer, wholeHistory, Exchange}
 use Rattle.rules.specs.Demand3.{FirstPart, CommitOrder, AllRight, Preparation, preparing, Prepares, rounds, isFine}
 use Rattle.plant.specs.View.{viewPlant, keptPlant}
 use Rattle.plant.specs.declared.Plant.{Plant}
@@ -45,6 +45,10 @@ noted (e ∷ es) h = noted es (noteAnswer (viewCall (e .call)) (viewAnswer (e .a
 
 abbrev pub callsOf : List Event → List C.Call
 callsOf = map (λ e. viewCall (e .call))
+
+-- calls with their answers
+abbrev pub exchangesOf : List Event → List Exchange
+exchangesOf = map (λ e. record { call = viewCall (e .call); answer = viewAnswer (e .answer) })
 
 -- ── the drain ──
 -- any one worker is cut, the clock has 300 ticks left and moves by them, the store is near, and the worker makes four calls for each buffered page

@@ -1,7 +1,8 @@
--- What the entry promises of one call and of a list, demands 1 and 2 of its calls, and demand 3 of every list of calls.
+-- What the entry promises of one call and of a list, demands 1 and 2 of its calls, demand 3 of every list of calls, and the order of the cached keys.
 pub mod Ran
 pub mod Refused
 pub mod RanAll
 pub mod Demand3
 pub mod Demands
 pub mod Listed
+pub mod CacheOrder

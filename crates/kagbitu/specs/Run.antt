@@ -76,7 +76,8 @@ pub record Led (s : Server) (bytes answers : List ℕ) (t : Server) (unused : Li
 abbrev pub RunLeads : Type 0
 RunLeads = (s : Server) (n : ℕ) (bytes answers : List ℕ) (t : Server) (unused : List ℕ) → Run s n bytes answers t unused → Led s bytes answers t unused
 
--- what was answered in all, with the last bytes, is the answer to the lines of all bytes read, and demands 1 to 3 hold of them
+-- what was answered in all, with the last bytes, is the answer to the lines of all bytes read; demands 1 to 3 hold of them, and the cached
+-- keys stand in the order of the reads
 pub record Whole (bytes answers : List ℕ) (p : Plant) : Type 0 where
   pub serves : Serves (linesOf bytes) setup answers p
   pub meets : Meets (linesOf bytes) initial (linesOf answers) p

@@ -1,12 +1,15 @@
 -- Demand 3 of lines: a line that says a call is a turn of the rules, so the rules' theorem speaks of them all.
 use Prim.Native.Nat.{ℕ}
-use mathlib.Core.Path.{_≡_, refl, sym, ap, subst}
+use mathlib.Core.Path.{_≡_, refl, sym, subst}
 use mathlib.Core.List.{List, [], _++_, _∷_}
-use Rattle.rules.specs.Tables.{Plant, setup}
+use Rattle.rules.specs.Lists.{InOrder}
+use Rattle.rules.specs.Tables.{keysOf, Plant, setup}
 use Rattle.rules.specs.Calls.{Pick}
 use Rattle.rules.specs.Step.{Allowed}
-use Rattle.rules.specs.History.{History, Turn, turns, AllAllowed, initial}
+use Rattle.rules.specs.History.{History, Turn, turns, AllAllowed, initial, exchanges}
+use Rattle.rules.specs.CacheOrder.{byReads}
 use Rattle.rules.proofs.Demand3.{demand3}
+use Rattle.rules.proofs.CacheOrder.{in-read-order}
 use Rattle.line_format.specs.Lines.{Said, says, faulty, said}
 use Rattle.line_format.specs.Serving.{lentWords, performed, serve, Serves}
 use Rattle.line_format.specs.Demand3.{LineMakes, Makes, LinesHold}
@@ -37,4 +40,11 @@ pub lines-hold : LinesHold
 unfolding initial
 lines-hold ls out q s =
     let x = replay ls setup out q s in
-    record { ts = x .ts; makes = x .makes; allowed = x .allowed; leaves = x .leaves _; holds = demand3 (x .ts) (x .allowed) }
+    record {
+      ts = x .ts;
+      makes = x .makes;
+      allowed = x .allowed;
+      leaves = x .leaves _;
+      holds = demand3 (x .ts) (x .allowed);
+      cacheOrder = subst (λ (z : Plant). InOrder (keysOf (z .cache)) (byReads (exchanges (x .ts) setup) [])) (x .leaves _) (in-read-order (x .ts) (x .allowed));
+    }

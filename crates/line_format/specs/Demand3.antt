@@ -1,11 +1,14 @@
 -- Demand 3 of lines: lines served from set-up make a list of the rules' turns, those of the calls that they say, the bytes answered tell what
--- these answer, and demand 3 holds after them. Its proof is proofs/Demand3, from the rules' theorem.
+-- these answer, demand 3 holds after them, and the cached keys stand in the order of the reads that cached them. Its proof is proofs/Demand3,
+-- from the rules' theorem.
 use Prim.Native.Nat.{ℕ}
 use mathlib.Core.Path.{_≡_}
 use mathlib.Core.List.{List, [], _++_, _∷_}
-use Rattle.rules.specs.Tables.{Plant, setup}
+use Rattle.rules.specs.Lists.{InOrder}
+use Rattle.rules.specs.Tables.{keysOf, Plant, setup}
 use Rattle.rules.specs.Calls.{refused}
-use Rattle.rules.specs.History.{Turn, does, turns, AllAllowed, initial}
+use Rattle.rules.specs.History.{Turn, does, turns, AllAllowed, initial, exchanges}
+use Rattle.rules.specs.CacheOrder.{byReads}
 use Rattle.rules.specs.Demand3.{Holds}
 use Rattle.line_format.specs.Lines.{Said, says, faulty, said, answerLine}
 use Rattle.line_format.specs.Serving.{lentWords, ended, replied, Serves}
@@ -27,6 +30,7 @@ pub record Made (ls : List (List ℕ)) (out : List ℕ) (q : Plant) : Type 0 whe
   pub allowed : AllAllowed ts setup
   pub leaves : (turns ts initial) .plant ≡ q
   pub holds : Holds (turns ts initial)
+  pub cacheOrder : InOrder (keysOf (q .cache)) (byReads (exchanges ts setup) [])
 
 abbrev pub LinesHold : Type 0
 LinesHold = (ls : List (List ℕ)) (out : List ℕ) (q : Plant) → Serves ls setup out q → Made ls out q

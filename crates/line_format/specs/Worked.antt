@@ -40,7 +40,7 @@ rows (l ∷ ls) = l ++ (10 ∷ []) ++ rows ls
 -- what lines print one after the other; no choice is made
 abbrev pub prints : List (List ℕ) → Plant → List ℕ
 prints [] p = []
-prints (l ∷ ls) p = (serve l (record { gives = 0; swept = [] }) p) .bytes ++ prints ls ((serve l (record { gives = 0; swept = [] }) p) .plant)
+prints (l ∷ ls) p = (serve l (record { swept = [] }) p) .bytes ++ prints ls ((serve l (record { swept = [] }) p) .plant)
 
 -- a line without its last byte
 abbrev pub cutLast : List ℕ → List ℕ

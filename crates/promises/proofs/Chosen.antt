@@ -58,7 +58,6 @@ pub chosen-allowed : (p : M.Plant) → kept p ≡ true → Allowed (chosen p) p
 unfolding chosen
 chosen-allowed p k =
     record {
-      oneOfSixteen = omega arith;
       removes = all-take (λ n. has n (p .rows) && M.removable p n) sweepLimit (going p) (all-going p);
       once = once-test (take sweepLimit (going p)) (once-take sweepLimit (going p) (once-keep (M.removable p) (p .rows) (kept-iff p .0 k .rows .once)));
       atMost = simp length-take (omega arith);

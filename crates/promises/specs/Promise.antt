@@ -15,10 +15,10 @@ use Rattle.plant.specs.declared.Plant.{Plant}
 use Rattle.answers.specs.View.{viewAnswer, isRefused}
 use Rattle.answers.specs.declared.Answer.{Answer}
 
--- what the code chooses where the paper leaves it free: the oldest cached key gives way, and a sweep takes the first rows it may.
+-- what the code chooses where the paper leaves it free: a sweep takes the first rows it may.
 -- `Allowed` holds of it (`proofs/Chosen`), and the entry over all calls promises no more than that
 unfoldable pub chosen : M.Plant → Pick
-chosen p = record { gives = 0; swept = take sweepLimit (keep (M.removable p) (p .rows)) }
+chosen p = record { swept = take sweepLimit (keep (M.removable p) (p .rows)) }
 
 -- the rules' result of a call
 abbrev pub result : Call → List ℤ → Plant → Result

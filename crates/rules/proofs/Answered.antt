@@ -10,7 +10,7 @@ use lib.ListN.{length, length-append}
 use lib.Dec.{eqb, leb}
 use lib.IntN.{negsuc, pos, ℤ}
 use borrow.Author.Tests.{eqb-true, leb-false, leb-true, ltb-false}
-use Rattle.rules.specs.Lists.{any, pushed, isEmpty, dropAt, has, isCase, caseOf, sameCase}
+use Rattle.rules.specs.Lists.{any, isEmpty, has, isCase, caseOf, sameCase}
 use Rattle.rules.specs.Limits.{cacheLimit, changeLimit, bufferLimit, rowLimit, lastSession}
 use Rattle.rules.specs.Values.{natOf, isNatural}
 use Rattle.rules.specs.Changes.{Update, touches}
@@ -20,9 +20,8 @@ use Rattle.rules.specs.Calls.{Fate, arrives, lost, unreached, fateNumber
 use Rattle.rules.specs.Conditions.{noRoom, conditions}
 use Rattle.rules.specs.Effects.{begun, mark, evicted, cacheBy, cacheAfter, withExclusive, withLast, withChange, grant, changed, bufferedAfter, committed, abandoned, taken, carried, applied, replyTo, deleted, cut}
 use Rattle.rules.specs.Step.{accepted}
-use Rattle.rules.specs.Answers.{CachesLast, Marks, Buffers, Carries, Replies, hasCome, Deletes}
+use Rattle.rules.specs.Answers.{Marks, Buffers, Carries, Replies, hasCome, Deletes}
 use Rattle.rules.proofs.Laws.{byCase, self, not-met, NoneMet, and-true, case-number, pushed-room}
-use Rattle.rules.proofs.Tests.{length-dropAt}
 use Rattle.rules.proofs.Slots.{session-each, hasSlot-freed}
 use Rattle.rules.proofs.KeptParts.{NoRows, TailFree}
 use Rattle.rules.proofs.Buffer.{unbuffer-none, buffered-nums, row-room, carried-hands}
@@ -37,38 +36,25 @@ unfolding conditions
 begin-fits lent p m = ltb-false lastSession (p .next) (not-met _ _ (m .0))
 
 -- ── read ──
-caches-last : (n : ℕ) (c : Cached) (l : List Cached) → n < cacheLimit → length l ≤ cacheLimit → CachesLast (c .key) l (pushed cacheLimit (evicted n l) c)
-caches-last n c l lt few =
-    byCase (leb cacheLimit (length l))
-    (λ e. rw e (record {
-      others = dropAt n l;
-      new = c;
-      key = refl;
-      last = pushed-room cacheLimit (dropAt n l) c (omega (arith, leb-true cacheLimit (length l) e, length-dropAt n l (omega (arith, leb-true cacheLimit (length l) e))));
-      stand = inr (omega (arith, leb-true cacheLimit (length l) e), n, lt, refl);
-    }))
-    (λ e. rw e (record {
-      others = l;
-      new = c;
-      key = refl;
-      last = pushed-room cacheLimit l c (leb-false cacheLimit (length l) e);
-      stand = inl (leb-false cacheLimit (length l) e, refl);
-    }))
+pub evicted-room : (l : List Cached) → length l ≤ cacheLimit → length (evicted l) < cacheLimit
+evicted-room [] few = omega arith
+evicted-room (c ∷ l) few =
+    byCase (leb cacheLimit (length (c ∷ l))) (λ t. rw t (omega arith)) (λ t. rw t (leb-false cacheLimit (length (c ∷ l)) t))
 
-pub marks : (s k : ℕ) (pick : Pick) (p : Plant) → pick .gives < cacheLimit → length (p .cache) ≤ cacheLimit
-    → Marks (mark s k p) k (any (touches ((session s (p .slots)) .changes)) (p .keys k)) (p .cache) (cacheAfter s k pick p)
+pub marks : (s k : ℕ) (p : Plant) → length (p .cache) ≤ cacheLimit
+    → Marks (mark s k p) k (any (touches ((session s (p .slots)) .changes)) (p .keys k)) (p .cache) (cacheAfter s k p)
 unfolding cacheAfter
-marks s k pick p lt few = go (any (touches ((session s (p .slots)) .changes)) (p .keys k)) (isCached k (p .cache)) refl refl
+marks s k p few = go (any (touches ((session s (p .slots)) .changes)) (p .keys k)) (isCached k (p .cache)) refl refl
   where
     new : Cached
     new = record { key = k; fields = map (current p) (p .keys k) }
 
     go : (t b : Bool) → any (touches ((session s (p .slots)) .changes)) (p .keys k) ≡ t → isCached k (p .cache) ≡ b
         → Marks (cond t ownChange (cond b fromCache cachedNow)) k (any (touches ((session s (p .slots)) .changes)) (p .keys k)) (p .cache)
-        (cacheBy (cond t ownChange (cond b fromCache cachedNow)) (pick .gives) new (p .cache))
+        (cacheBy (cond t ownChange (cond b fromCache cachedNow)) new (p .cache))
     go true b e d = (e, refl)
     go false true e d = (e, d, refl)
-    go false false e d = (e, d, caches-last (pick .gives) new (p .cache) lt few)
+    go false false e d = (e, d, record { new = new; key = refl; last = pushed-room cacheLimit (evicted (p .cache)) new (evicted-room (p .cache) few) })
 
 -- ── change ──
 pub changed-count : (s : ℕ) (c : Update) (p : Plant) → length ((session s (p .slots)) .changes) < changeLimit → hasSlot s (p .slots) ≡ true

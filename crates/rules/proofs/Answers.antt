@@ -131,19 +131,15 @@ some-pick p = go (find-row p (p .rows) (λ n e. e))
     go : (any (removable p) (p .rows) ≡ false) ⊎ ((n : ℕ) × (has n (p .rows) && removable p n ≡ true)) → (pick : Pick) × Allowed pick p
     go (inl e) = (
       record {
-        gives = 0;
         swept = [];
       },
-      record { oneOfSixteen = omega arith; removes = refl; once = refl; atMost = omega arith; atLeast = λ t. absurd (true≢false (sym t ∙ e)) },
+      record { removes = refl; once = refl; atMost = omega arith; atLeast = λ t. absurd (true≢false (sym t ∙ e)) },
     )
     go (inr (n, e)) = (
       record {
-        gives = 0;
         swept = n ∷ [];
       },
       record {
-        oneOfSixteen =
-            omega arith;
         removes = both (has n (p .rows) && removable p n) true e refl;
         once = refl;
         atMost = omega arith;
@@ -159,7 +155,7 @@ counts-accepted (Load d f kd v) lent pick p m al k = refl
 counts-accepted (Map ky n qs) lent pick p m al k = refl
 counts-accepted Begin lent pick p m al k = (refl, begin-counts p, opens p (not-met _ _ (m .1 .0)) k)
 counts-accepted (Read s ky) lent pick p m al k =
-    (mark (natOf s) (natOf ky) p, refl, marks (natOf s) (natOf ky) pick p (al .oneOfSixteen) (k .cache .few))
+    (mark (natOf s) (natOf ky) p, refl, marks (natOf s) (natOf ky) p (k .cache .few))
 counts-accepted (Change s d f kd v) lent pick p m al k =
     (ap (λ n. n ∷ []) (sym (changed-length (natOf s) c p few slot)), changed-count (natOf s) c p few slot)
   where

@@ -8,8 +8,8 @@ use mathlib.Core.List.{List, [], _++_, _∷_, append-nil, map, map-append}
 use lib.ListN.{length}
 use lib.Dec.{eqb, leb, ltb}
 use lib.IntN.{ℤ}
-use borrow.Author.Tests.{eqb-true, lt-ltb, ltb-true, ne-eqb, not-true}
-use Rattle.rules.specs.Lists.{keep, all, has, without}
+use borrow.Author.Tests.{lt-ltb, ltb-true, ne-eqb, not-true}
+use Rattle.rules.specs.Lists.{keep, all, has, without, InOrder}
 use Rattle.rules.specs.Limits.{slotLimit}
 use Rattle.rules.specs.Refusals.{Refusal, endsSession, first}
 use Rattle.rules.specs.Values.{natOf}
@@ -25,7 +25,8 @@ use Rattle.rules.proofs.Laws.{byCase, self, not-met, NoneMet, none-met,
 use Rattle.rules.proofs.Tests.{all-imp, all-snoc}
 use Rattle.rules.proofs.Slots.{hasSlot-each, hasSlot-freed, hasSlot-snoc, has-slot}
 use Rattle.rules.proofs.KeptParts.{Kept}
-use Rattle.rules.proofs.Buffer.{has-append, has-last, has-keep-false, not-swept, and-false, carried-slots, carried-next}
+use Rattle.rules.proofs.Buffer.{has-append, has-last, not-swept, and-false, carried-slots, carried-next}
+use Rattle.rules.proofs.InOrder.{keep-append, keep-keep, keep-same, has-without, in-order-has}
 use Rattle.rules.proofs.KeptSlots.{room-fits}
 use Rattle.rules.proofs.KeptSetup.{number-look}
 use Rattle.rules.proofs.Kept.{step-keeps}
@@ -39,34 +40,10 @@ isGone next slots n = ltb n next && not (hasSlot n slots)
 
 pub record Order (commits : List Committed) (buffered : List ℕ) (next : ℕ) (slots : List Slot) : Type 0 where
   pub gone : all (isGone next slots) (numbersIn commits) ≡ true
-  pub order : buffered ≡ keep (λ n. has n buffered) (numbersIn commits)
+  pub order : InOrder buffered (numbersIn commits)
 
 abbrev pub OrderAt : History → Plant → Type 0
 OrderAt h p = Order (h .commits) (h .buffered) (p .next) (p .slots)
-
--- ── lists ──
-keep-append : {A : Type 0} (f : A → Bool) (a b : List A) → keep f (a ++ b) ≡ keep f a ++ keep f b
-keep-append f [] b = refl
-keep-append f (x ∷ a) b = byCase (f x) (λ e. rw e (ap (λ z. x ∷ z) (keep-append f a b))) (λ e. rw e (keep-append f a b))
-
-keep-keep : (f g : ℕ → Bool) (l : List ℕ) → keep f (keep g l) ≡ keep (λ n. g n && f n) l
-keep-keep f g [] = refl
-keep-keep f g (x ∷ l) =
-    byCase (g x)
-    (λ e. rw e (byCase (f x) (λ t. rw t (ap (λ z. x ∷ z) (keep-keep f g l))) (λ t. rw t (keep-keep f g l))))
-    (λ e. rw e (keep-keep f g l))
-
-keep-same : (f g : ℕ → Bool) (l : List ℕ) → ((n : ℕ) → has n l ≡ true → f n ≡ g n) → keep f l ≡ keep g l
-keep-same f g [] h = refl
-keep-same f g (x ∷ l) h =
-    rw (h x (rw (self x)), keep-same f g l (λ n e. h n (byCase (eqb n x) (λ t. rw t) (λ t. rw t e)))) refl
-
-has-without : (n m : ℕ) (l : List ℕ) → has m (without n l) ≡ has m l && not (eqb n m)
-has-without n m [] = refl
-has-without n m (x ∷ l) =
-    byCase (eqb n x)
-    (λ e. rw e (has-without n m l ∙ byCase (eqb m x) (λ t. rw (t, eqb-true m x t, e) (and-false (has x l) false refl)) (λ t. rw t)))
-    (λ e. rw e (byCase (eqb m x) (λ t. rw (t, eqb-true m x t, e)) (λ t. rw t (has-without n m l))))
 
 not-gone : (next : ℕ) (slots : List Slot) (s : ℕ) (l : List ℕ) → all (isGone next slots) l ≡ true → hasSlot s slots ≡ true → has s l ≡ false
 not-gone next slots s l a h = not-swept (isGone next slots) s l a (rw h (and-false (ltb s next) false refl))
@@ -120,9 +97,9 @@ module _ {commits : List Committed} {buffered : List ℕ} {next : ℕ} {slots : 
       new = not-gone next slots s (numbersIn commits) (o .gone) h
 
       unbuffered : has s buffered ≡ false
-      unbuffered = ap (has s) (o .order) ∙ has-keep-false (λ n. has n buffered) s (numbersIn commits) new
+      unbuffered = in-order-has buffered (numbersIn commits) s (o .order) new
 
-      quiet : buffered ≡ keep (λ n. has n buffered) (numbersIn commits ++ (s ∷ []))
+      quiet : InOrder buffered (numbersIn commits ++ (s ∷ []))
       quiet =
           o .order
           ∙ sym (keep-append (λ n. has n buffered) (numbersIn commits) (s ∷ []) ∙ ap
@@ -134,7 +111,7 @@ module _ {commits : List Committed} {buffered : List ℕ} {next : ℕ} {slots : 
           has-append n buffered (s ∷ []) ∙ rw (ne-eqb n s (λ q. true≢false (sym e ∙ ap (λ m. has m (numbersIn commits)) q ∙ new)))
           (or-zero (has n buffered))
 
-      changing : buffered ++ (s ∷ []) ≡ keep (λ n. has n (buffered ++ (s ∷ []))) (numbersIn commits ++ (s ∷ []))
+      changing : InOrder (buffered ++ (s ∷ [])) (numbersIn commits ++ (s ∷ []))
       changing =
           ap (λ l. l ++ (s ∷ [])) (o .order ∙ sym (keep-same (λ n. has n (buffered ++ (s ∷ []))) (λ n. has n buffered) (numbersIn commits) other))
           ∙ sym (keep-append (λ n. has n (buffered ++ (s ∷ []))) (numbersIn commits) (s ∷ []) ∙ ap

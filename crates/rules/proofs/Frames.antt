@@ -50,7 +50,7 @@ answered-only n w h p =
     byCase (has n (p .rows)) (λ e. rw e (hand-put w h p))
     (λ e. rw e (hand-put w h (withStore (follow (p .store) (batchOf n (p .buffer))) (withRows (pushed rowLimit (p .rows) n) p))))
 
-applied-only : (x : Fate) (w : ℕ) (p : Plant) → applied x w p ≡ withHand w ((applied x w p) .hands w) (withStore ((applied x w p) .store) (withRows ((applied x w p) .rows) p))
+pub applied-only : (x : Fate) (w : ℕ) (p : Plant) → applied x w p ≡ withHand w ((applied x w p) .hands w) (withStore ((applied x w p) .store) (withRows ((applied x w p) .rows) p))
 unfolding applied
 applied-only arrives w p = answered-only (handed (p .hands w)) w (holds (handed (p .hands w)) true) p
 applied-only lost w p = byCase (noRoom w p) (λ e. rw e (hand-kept w p)) (λ e. rw e (carried-only (handed (p .hands w)) w p))

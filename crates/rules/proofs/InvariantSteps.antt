@@ -32,7 +32,7 @@ inv-accepted (Load d f kd v) lent pick h p m al k i = inv-load d f kd v lent (no
 inv-accepted (Map ky n qs) lent pick h p m al k i = inv-map ky n qs lent (not-met _ _ (m .1 .0)) i
 inv-accepted Begin lent pick h p m al k i = inv-begin lent (not-met _ _ (m .1 .0)) k i
 inv-accepted (Read s ky) lent pick h p m al k i =
-    inv-read s ky lent pick (markNumber (mark (natOf s) (natOf ky) p) ∷ []) (not-met _ _ (m .1 .1 .0)) (not-met _ _ (m .1 .1 .1 .1 .1 .0)) i
+    inv-read s ky lent (markNumber (mark (natOf s) (natOf ky) p) ∷ []) (not-met _ _ (m .1 .1 .0)) (not-met _ _ (m .1 .1 .1 .1 .1 .0)) i
 inv-accepted (Change s d f kd v) lent pick h p m al k i =
     inv-change s d f kd v (suc (length (own s p)) ∷ []) lent (not-met _ _ (m .1 .1 .0)) (not-met _ _ (m .1 .1 .1 .0)) (not-met _ _ (m .1 .1 .1 .1 .0))
     (m .1 .1 .1 .1 .1 .1 .0) i

@@ -17,7 +17,7 @@ use Rattle.rules.specs.Values.{natOf, Place, Stock, showAll}
 use Rattle.rules.specs.Changes.{Update, meets, follow, placeOf, updateOf}
 use Rattle.rules.specs.Tables.{hasSlot, session, freed, othersExclusive, Batch, isBuffered, Plant, withSlots}
 use Rattle.rules.specs.Reading.{seen}
-use Rattle.rules.specs.Calls.{Pairs, placesOf, Call, Load, Map, Begin, Read, Change, Commit, Pick}
+use Rattle.rules.specs.Calls.{Pairs, placesOf, Call, Load, Map, Begin, Read, Change, Commit}
 use Rattle.rules.specs.Conditions.{sessionAt, own, everBegun}
 use Rattle.rules.specs.Effects.{loaded, mapped, opened, firstDoomed, room, begun, withShared, onlyAt, afterRead, grant, changed, committed, lapse, advanced}
 use Rattle.rules.specs.Step.{sessionOf, ending, afterRefusal}
@@ -143,13 +143,13 @@ pub seen-is : {h : History} {p : Plant} (s : ℕ) → (session s (p .slots)) .do
     → seen p ((session s (p .slots)) .changes) ≡ follow (wholeHistory h) (changesOf (h .page s))
 seen-is {h} {p} s a i = ap (λ z. follow z ((session s (p .slots)) .changes)) (current-is-history (i .workers)) ∙ sym (own-is s a i)
 
-pub inv-read : {h : History} {p : Plant} (s k : ℤ) (lent : List ℤ) (pick : Pick) (ns : List ℕ) → (sessionAt s p) .doomed ≡ false
+pub inv-read : {h : History} {p : Plant} (s k : ℤ) (lent : List ℤ) (ns : List ℕ) → (sessionAt s p) .doomed ≡ false
     → any (λ q. othersExclusive (natOf s) (q .document) (p .slots)) (p .keys (natOf k)) ≡ false
     → Inv h p → Inv (note (Read s k) ns
     (showAll (map (seen p (own s p)) (p .keys (natOf k))) ++ drop (wordsPerField * length (p .keys (natOf k))) lent) h) (afterRead (natOf s)
-    (natOf k) pick p)
+    (natOf k) p)
 unfolding note afterRead
-inv-read {h} {p} s′ k′ lent pick ns a o i =
+inv-read {h} {p} s′ k′ lent ns a o i =
     record {
       workers = i .workers;
       alone = i .alone;

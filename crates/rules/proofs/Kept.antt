@@ -68,8 +68,8 @@ kept-accepted (Map k n ps) lent pick p m al i =
     (not-met _ _ (m .1 .0)) i
 kept-accepted Begin lent pick p m al i = kept-begin (not-met _ _ (m .0)) (not-met _ _ (m .1 .0)) i
 kept-accepted (Read s k) lent pick p m al i =
-    kept-read (natOf s) (natOf k) pick (below-is k keyCount (not-false _ (not-met _ _ (m .0)))) (not-met _ _ (m .1 .1 .0))
-    (not-met _ _ (m .1 .1 .1 .0)) (not-met _ _ (m .1 .1 .1 .1 .1 .0)) (al .oneOfSixteen) i
+    kept-read (natOf s) (natOf k) (below-is k keyCount (not-false _ (not-met _ _ (m .0)))) (not-met _ _ (m .1 .1 .0))
+    (not-met _ _ (m .1 .1 .1 .0)) (not-met _ _ (m .1 .1 .1 .1 .1 .0)) i
 kept-accepted (Change s d f k v) lent pick p m al i =
     kept-change (natOf s) (updateOf (placeOf d f) (natOf k) v) (not-met _ _ (m .1 .1 .0)) (update-ok d f k v (not-false _ (not-met _ _ (m .0))))
     (not-met _ _ (m .1 .1 .1 .0)) (not-met _ _ (m .1 .1 .1 .1 .0))

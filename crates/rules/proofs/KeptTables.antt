@@ -6,20 +6,21 @@ use mathlib.Core.Bool.{Bool, _&&_, _||_, cond, false, not, true, true≢false}
 use mathlib.Core.List.{List, [], _++_, _∷_, append-assoc, append-nil, map}
 use lib.ListN.{length, length-append}
 use lib.Dec.{eqb, leb, ltb}
-use borrow.Author.Tests.{eqb-true, leb-false, leb-true, lt-ltb, ltb-false}
-use Rattle.rules.specs.Lists.{keep, all, pushed, isEmpty, dropAt, has}
+use borrow.Author.Tests.{eqb-true, leb-true, lt-ltb, ltb-false}
+use Rattle.rules.specs.Lists.{keep, all, pushed, isEmpty, has}
 use Rattle.rules.specs.Limits.{keyCount, cacheLimit, changeLimit, bufferLimit}
 use Rattle.rules.specs.Values.{Place, absent, Stock}
 use Rattle.rules.specs.Changes.{Update, follow, accepts, updateOk}
-use Rattle.rules.specs.Tables.{Cached, isCached, Batch, numbersOf, isOldest, batchOf, unbuffer, pending, changesIn}
+use Rattle.rules.specs.Tables.{Cached, keysOf, isCached, Batch, numbersOf, isOldest, batchOf, unbuffer, pending, changesIn}
 use Rattle.rules.specs.Effects.{evicted, upToDate}
 use Rattle.rules.specs.Kept.{isDefined, goodNumber, batchOk}
 use Rattle.rules.proofs.Laws.{byCase, or-one, and-true, both, follow-append, pushed-room}
-use Rattle.rules.proofs.Tests.{Once, all-head, all-tail, all-snoc, all-keep, all-dropAt, length-dropAt, once-map-keep, has-map-dropAt, once-map-dropAt, once-map-snoc}
+use Rattle.rules.proofs.Tests.{Once, all-head, all-tail, all-snoc, all-keep, once-map-keep, once-map-snoc}
 use Rattle.rules.proofs.Accepts.{accepts-split, accepts-join, run-set}
 use Rattle.rules.proofs.KeptParts.{CacheKept, NoRows, TailFree, RowShown, BufferKept}
 use Rattle.rules.proofs.Buffer.{nums-append, pending-append, pending-free, has-last, noRows-snoc, once-snoc, pending-unbuffer, tail-unbuffer, nums-unbuffer, length-unbuffer, has-keep-false, once-keep, length-keep, pending-rows, tailFree-keep, tail-last}
-use Rattle.rules.proofs.Words.{cache-commit, cache-keep, cache-dropAt, cache-snoc}
+use Rattle.rules.proofs.Answered.{evicted-room}
+use Rattle.rules.proofs.Words.{cache-commit, cache-keep, cache-snoc}
 use Rattle.rules.proofs.KeptSlots.{number-less, number-later}
 
 -- ── numbers ──
@@ -213,56 +214,61 @@ early-cache (x ∷ l) b e h = absurd (true≢false (sym e ∙ h))
 pub cache-nil : (now : Stock) (keys : ℕ → List Place) (next : ℕ) → CacheKept now keys next []
 cache-nil now keys next = record { few = omega arith; once = tt; defined = refl; fields = tt; afterBegin = refl }
 
-not-cached : (k : ℕ) (l : List Cached) → isCached k l ≡ false → has k (map (λ c. c .key) l) ≡ false
+pub not-cached : (k : ℕ) (l : List Cached) → isCached k l ≡ false → has k (keysOf l) ≡ false
 not-cached k [] e = refl
 not-cached k (c ∷ l) e = byCase (eqb k (c .key)) (λ t. absurd (true≢false (rw t at e))) (λ t. rw t (not-cached k l (rw t at e)))
 
-cache-evicted : {now : Stock} {keys : ℕ → List Place} {next : ℕ} {l : List Cached} (n : ℕ) → n < cacheLimit → ltb 1 next ≡ true
-    → CacheKept now keys next l
-    → (length (evicted n l) < cacheLimit) × CacheKept now keys next (evicted n l)
-cache-evicted {now} {keys} {next} {l} n h b k =
-    byCase (leb cacheLimit (length l))
-    (λ t. let long = leb-true cacheLimit (length l) t in
-    let less = length-dropAt n l (omega arith) in
-    rw t (
-      omega (arith, k .few),
-      record {
-        few = omega (arith, k .few);
-        once = once-map-dropAt (λ c. c .key) n l (k .once);
-        defined = all-dropAt (isDefined keys) n l (k .defined);
-        fields = cache-dropAt now keys n l (k .fields);
-        afterBegin = rw b (or-one (isEmpty (dropAt n l)));
-      },
-    ))
-    (λ t. rw t (leb-false cacheLimit (length l) t, k))
+cache-evicted : {now : Stock} {keys : ℕ → List Place} {next : ℕ} (l : List Cached) → ltb 1 next ≡ true → CacheKept now keys next l
+    → CacheKept now keys next (evicted l)
+cache-evicted [] b k = k
+cache-evicted {now} {keys} {next} (c ∷ l) b k =
+    byCase (leb cacheLimit (length (c ∷ l)))
+    (λ t. rw t
+    record {
+      few = omega (arith, k .few);
+      once = k .once .1;
+      defined = all-tail (isDefined keys) c l (k .defined);
+      fields = k .fields .1;
+      afterBegin = rw b (or-one (isEmpty l));
+    })
+    (λ t. rw t k)
 
-evicted-not : (k n : ℕ) (l : List Cached) → has k (map (λ c. c .key) l) ≡ false → has k (map (λ c. c .key) (evicted n l)) ≡ false
-evicted-not k n l e = byCase (leb cacheLimit (length l)) (λ t. rw t (has-map-dropAt k (λ c. c .key) n l e)) (λ t. rw t e)
+pub evicted-not : (k : ℕ) (l : List Cached) → has k (keysOf l) ≡ false → has k (keysOf (evicted l)) ≡ false
+evicted-not k [] e = e
+evicted-not k (c ∷ l) e =
+    byCase (leb cacheLimit (length (c ∷ l)))
+    (λ t. rw t (byCase (eqb k (c .key)) (λ u. absurd (true≢false (rw u at e))) (λ u. rw u at e)))
+    (λ t. rw t e)
 
 -- a key is cached, one may give way
-pub cache-read : {now : Stock} {keys : ℕ → List Place} {next : ℕ} {l : List Cached} (k n : ℕ) → n < cacheLimit → ltb 1 next ≡ true
+pub cache-read : {now : Stock} {keys : ℕ → List Place} {next : ℕ} {l : List Cached} (k : ℕ) → ltb 1 next ≡ true
     → isCached k l ≡ false → k < keyCount → isEmpty (keys k) ≡ false
-    → CacheKept now keys next l → CacheKept now keys next (pushed cacheLimit (evicted n l) (record { key = k; fields = map now (keys k) }))
-cache-read {now} {keys} {next} {l} k n h b c lt d i =
-    let e = cache-evicted n h b i in
+    → CacheKept now keys next l → CacheKept now keys next (pushed cacheLimit (evicted l) (record { key = k; fields = map now (keys k) }))
+cache-read {now} {keys} {next} {l} k b c lt d i =
+    let e = cache-evicted l b i in
+    let r = evicted-room l (i .few) in
     let x : Cached = record { key = k; fields = map now (keys k) } in
-    rw (pushed-room cacheLimit (evicted n l) x (e .0))
+    rw (pushed-room cacheLimit (evicted l) x r)
     record {
-      few = rw (length-append (evicted n l) (x ∷ [])) (omega (arith, e .0));
-      once = once-map-snoc (λ c. c .key) x (evicted n l) (evicted-not k n l (not-cached k l c)) (e .1 .once);
+      few = rw (length-append (evicted l) (x ∷ [])) (omega arith);
+      once = once-map-snoc (λ c. c .key) x (evicted l) (evicted-not k l (not-cached k l c)) (e .once);
       defined =
-          all-snoc (isDefined keys) (evicted n l) x (e .1 .defined) (both (ltb k keyCount) (not (isEmpty (keys k))) (lt-ltb k keyCount lt) (rw d));
-      fields = cache-snoc now keys (evicted n l) x (e .1 .fields) refl;
-      afterBegin = rw b (or-one (isEmpty (evicted n l ++ (x ∷ []))));
+          all-snoc (isDefined keys) (evicted l) x (e .defined) (both (ltb k keyCount) (not (isEmpty (keys k))) (lt-ltb k keyCount lt) (rw d));
+      fields = cache-snoc now keys (evicted l) x (e .fields) refl;
+      afterBegin = rw b (or-one (isEmpty (evicted l ++ (x ∷ []))));
     }
 
 -- cached keys are brought up to date
+pub same-keys : (keys : ℕ → List Place) (now : Stock) (l : List Cached) → keysOf (map (upToDate keys now) l) ≡ keysOf l
+same-keys keys now [] = refl
+same-keys keys now (c ∷ l) = ap (λ z. c .key ∷ z) (same-keys keys now l)
+
 pub cache-update : {now : Stock} {keys : ℕ → List Place} {next : ℕ} {l : List Cached} (now′ : Stock) → CacheKept now keys next l
     → CacheKept now′ keys next (map (upToDate keys now′) l)
 cache-update {now} {keys} {next} {l} now′ k =
     record {
       few = rw (same-length l) (k .few);
-      once = subst Once (sym (same-keys l)) (k .once);
+      once = subst Once (sym (same-keys keys now′ l)) (k .once);
       defined = still l (k .defined);
       fields = cache-commit now′ keys l;
       afterBegin = after-begin l (map (upToDate keys now′) l) (ltb 1 next) (λ e. ap (map (upToDate keys now′)) e) (k .afterBegin);
@@ -271,10 +277,6 @@ cache-update {now} {keys} {next} {l} now′ k =
     same-length : (m : List Cached) → length (map (upToDate keys now′) m) ≡ length m
     same-length [] = refl
     same-length (c ∷ m) = ap suc (same-length m)
-
-    same-keys : (m : List Cached) → map (λ c. c .key) (map (upToDate keys now′) m) ≡ map (λ c. c .key) m
-    same-keys [] = refl
-    same-keys (c ∷ m) = ap (λ z. c .key ∷ z) (same-keys m)
 
     still : (m : List Cached) → all (isDefined keys) m ≡ true → all (isDefined keys) (map (upToDate keys now′) m) ≡ true
     still [] e = refl

@@ -9,12 +9,11 @@ use lib.ListN.{length}
 use lib.Dec.{eqb, leb, ltb}
 use borrow.Author.Tests.{le-leb, leb-false, leb-true, lt-ltb, ltb-false, not-true}
 use Rattle.rules.specs.Lists.{keep, any, all, pushed, isEmpty, has}
-use Rattle.rules.specs.Limits.{keyCount, cacheLimit, changeLimit, bufferLimit, leaseTicks, lastTick}
+use Rattle.rules.specs.Limits.{keyCount, changeLimit, bufferLimit, leaseTicks, lastTick}
 use Rattle.rules.specs.Values.{Stock}
 use Rattle.rules.specs.Changes.{Update, meets, follow, updateOk}
 use Rattle.rules.specs.Tables.{hasSlot, session, freed, othersExclusive, isCached, Batch, isBuffered, pending, changesIn, Queue, idle, leased, Plant}
 use Rattle.rules.specs.Reading.{current, seen}
-use Rattle.rules.specs.Calls.{Pick}
 use Rattle.rules.specs.Effects.{withShared, touched, cacheAfter, onlyAt, afterRead, grant, changed, bufferedAfter, upToDate, committed, lapse, lapsedQueue, advanced}
 use Rattle.rules.specs.Kept.{goodNumber, inTime, sessionOk, isFresh, ownerOk, queueOk}
 use Rattle.rules.proofs.Laws.{byCase, eqb-sym, and-true, both, follow-append, pushed-room, nil-is}
@@ -28,17 +27,17 @@ use Rattle.rules.proofs.KeptTables.{flat-commit, buffer-commit, cache-r
 use Rattle.rules.proofs.KeptSetup.{number-look, has-begun}
 
 -- ── read ──
-pub kept-read : {p : Plant} (s key : ℕ) (pick : Pick) → key < keyCount → (session s (p .slots)) .doomed ≡ false → isEmpty (p .keys key) ≡ false
-    → any (λ q. othersExclusive s (q .document) (p .slots)) (p .keys key) ≡ false → pick .gives < cacheLimit → Kept p → Kept (afterRead s key pick p)
+pub kept-read : {p : Plant} (s key : ℕ) → key < keyCount → (session s (p .slots)) .doomed ≡ false → isEmpty (p .keys key) ≡ false
+    → any (λ q. othersExclusive s (q .document) (p .slots)) (p .keys key) ≡ false → Kept p → Kept (afterRead s key p)
 unfolding afterRead cacheAfter
-kept-read {p} s key pick lt a d o al k =
+kept-read {p} s key lt a d o k =
     record {
       store = k .store;
       keys = k .keys;
       cache =
           byCase (touched ((session s (p .slots)) .changes) (p .keys key)) (λ e. rw e (k .cache))
           (λ e. byCase (isCached key (p .cache)) (λ t. rw (e, t) (k .cache))
-          (λ t. rw (e, t) (cache-read key (pick .gives) al (has-begun s (has-slot s (p .slots) a) k) t lt d (k .cache))));
+          (λ t. rw (e, t) (cache-read key (has-begun s (has-slot s (p .slots) a) k) t lt d (k .cache))));
       slots = slots-read s (p .keys key) a (λ x n u e. none-other s (p .slots) (p .keys key) x n o u e) (k .slots);
       fresh = numbers-each (isFresh (p .buffer) (p .rows)) (onlyAt s (withShared (p .clock) (p .keys key))) (p .slots) (k .fresh);
       buffer = k .buffer;

@@ -1,6 +1,6 @@
 -- Laws and proofs over the rules.
 -- What other crates cite: Laws and Tests; of a call Steps; of kept plants KeptTest, KeptParts, KeptSlots, Buffer and Words; Away (a value without the store),
--- Frames (what a call may write) and Demand3.
+-- Frames (what a call may write), Demand3 and CacheOrder.
 pub mod Worked
 pub mod Laws
 pub mod Tests
@@ -9,6 +9,7 @@ pub mod Steps
 pub mod Slots
 pub mod KeptParts
 pub mod Buffer
+pub mod InOrder
 pub mod Words
 -- what is claimed of a call on any plant, or needs few of the plant's rules
 pub mod Answered
@@ -40,4 +41,6 @@ pub mod Drain
 pub mod Demand3
 pub mod Demand2
 pub mod Answers
+-- the key cached longest ago gives way
+pub mod CacheOrder
 pub mod Theorem

@@ -17,7 +17,7 @@ use Rattle.rules.specs.Tables.{Plant, setup}
 use Rattle.rules.specs.Calls.{Call, Load, Map, Begin, Read, Change, Commit, Abandon, Advance, Take, Apply, Delete, Cut, Sweep, Store, Report, Answer, refused, fine, Pick}
 use Rattle.rules.specs.Conditions.{conditions}
 use Rattle.rules.specs.Step.{accepted, settle, step}
-use Rattle.rules.specs.History.{Turn, does, initial, begunBy, numbersBegun}
+use Rattle.rules.specs.History.{Turn, does, initial, exchanges, begunBy, numbersBegun}
 use Rattle.rules.specs.Claims.{NumbersRise}
 use Rattle.rules.proofs.Laws.{byCase, none-met, both}
 use Rattle.rules.proofs.Answered.{begin-counts, begin-fits}
@@ -71,18 +71,18 @@ record From (n : ℕ) (ns : List ℕ) : Type 0 where
   counts : ns ≡ span n (length ns)
   ends : all (λ m. leb m lastSession) ns ≡ true
 
-from-next : (ts : List Turn) (p : Plant) → From (p .next) (numbersBegun ts p)
+from-next : (ts : List Turn) (p : Plant) → From (p .next) (numbersBegun (exchanges ts p))
 from-next [] p = record { counts = refl; ends = refl }
 from-next (t ∷ ts) p =
     go (begunBy (t .call) ((does t p) .answer)) (moves (t .call) (t .lent) (t .pick) p) (from-next ts ((does t p) .plant))
   where
     go : (ns : List ℕ) → Moves ns (p .next) (((does t p) .plant) .next)
-        → From (((does t p) .plant) .next) (numbersBegun ts ((does t p) .plant))
-        → From (p .next) (ns ++ numbersBegun ts ((does t p) .plant))
-    go ns (inl (e, n)) f = rw e (subst (λ m. From m (numbersBegun ts ((does t p) .plant))) n f)
+        → From (((does t p) .plant) .next) (numbersBegun (exchanges ts ((does t p) .plant)))
+        → From (p .next) (ns ++ numbersBegun (exchanges ts ((does t p) .plant)))
+    go ns (inl (e, n)) f = rw e (subst (λ m. From m (numbersBegun (exchanges ts ((does t p) .plant)))) n f)
     go ns (inr (e, n, b)) f =
         rw e (record {
-          counts = ap (λ l. p .next ∷ l) (f .counts ∙ ap (λ m. span m (length (numbersBegun ts ((does t p) .plant)))) (n ∙ omega arith));
+          counts = ap (λ l. p .next ∷ l) (f .counts ∙ ap (λ m. span m (length (numbersBegun (exchanges ts ((does t p) .plant))))) (n ∙ omega arith));
           ends = both (leb (p .next) lastSession) _ (le-leb (p .next) lastSession b) (f .ends);
         })
 
@@ -99,4 +99,4 @@ pub numbers-rise : NumbersRise
 unfolding initial setup
 numbers-rise ts =
     let f = from-next ts (initial .plant) in
-    record { counts = f .counts; rises = ap (pairwise ltb) (f .counts) ∙ span-rises firstSession (length (numbersBegun ts (initial .plant))); ends = f .ends }
+    record { counts = f .counts; rises = ap (pairwise ltb) (f .counts) ∙ span-rises firstSession (length (numbersBegun (exchanges ts (initial .plant)))); ends = f .ends }

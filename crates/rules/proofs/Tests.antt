@@ -4,7 +4,7 @@ use native.Mathlib.Omega.{arith}
 use mathlib.Core.Path.{_∙_, _≡_, ap, ap₂, refl, sym}
 use mathlib.Core.Bool.{Bool, _&&_, false, not, true, true≢false}
 use mathlib.Core.List.{List, [], _++_, _∷_, map}
-use lib.ListN.{length, take}
+use lib.ListN.{take}
 use lib.Dec.{eqb, leb, ltb}
 use borrow.Author.Tests.{eqb-false, eqb-true, le-leb, lt-ltb, not-true}
 use Rattle.rules.specs.Lists.{keep, any, all, pairwise, sameList, dropAt, has, span, upto, isOnce}
@@ -64,6 +64,10 @@ module _ {A : Type 0} where
   all-dropAt f zero (a ∷ l) e = all-tail f a l e
   all-dropAt f (suc n) (a ∷ l) e = both (f a) (all f (dropAt n l)) (all-head f a l e) (all-dropAt f n l (all-tail f a l e))
 
+  pub keep-all : (f : A → Bool) (l : List A) → ((a : A) → f a ≡ true) → l ≡ keep f l
+  keep-all f [] h = refl
+  keep-all f (a ∷ l) h = rw (h a) (ap (λ m. a ∷ m) (keep-all f l h))
+
   pub any-none : (f : A → Bool) (l : List A) → any f l ≡ false → all (λ a. not (f a)) l ≡ true
   any-none f [] e = refl
   any-none f (a ∷ l) e =
@@ -83,11 +87,6 @@ module _ {A : Type 0} where
       both (all (r a) (l ++ (x ∷ []))) (pairwise r (l ++ (x ∷ [])))
       (all-snoc (r a) l x (and-true (all (r a) l) (pairwise r l) e .0) (all-head (λ b. r b x) a l h))
       (pairwise-snoc r l x (and-true (all (r a) l) (pairwise r l) e .1) (all-tail (λ b. r b x) a l h))
-
-  pub length-dropAt : (n : ℕ) (l : List A) → n < length l → length (dropAt n l) < length l
-  length-dropAt n [] h = absurd (omega arith)
-  length-dropAt zero (a ∷ l) h = omega arith
-  length-dropAt (suc n) (a ∷ l) h = omega (arith, length-dropAt n l (omega arith))
 
   pub same-list-is : (r : A → A → Bool) → ((a b : A) → r a b ≡ true → a ≡ b) → (l m : List A) → sameList r l m ≡ true → l ≡ m
   same-list-is r h [] [] e = refl
@@ -110,16 +109,6 @@ module _ {A : Type 0} where
   once-map-keep g f [] o = tt
   once-map-keep g f (a ∷ l) o =
       byCase (f a) (λ t. rw t (has-map-keep (g a) g f l (o .0), once-map-keep g f l (o .1))) (λ t. rw t (once-map-keep g f l (o .1)))
-
-  pub has-map-dropAt : (k : ℕ) (g : A → ℕ) (n : ℕ) (l : List A) → has k (map g l) ≡ false → has k (map g (dropAt n l)) ≡ false
-  has-map-dropAt k g n [] e = refl
-  has-map-dropAt k g zero (a ∷ l) e = byCase (eqb k (g a)) (λ t. absurd (true≢false (rw t at e))) (λ t. rw t at e)
-  has-map-dropAt k g (suc n) (a ∷ l) e = byCase (eqb k (g a)) (λ t. absurd (true≢false (rw t at e))) (λ t. rw t (has-map-dropAt k g n l (rw t at e)))
-
-  pub once-map-dropAt : (g : A → ℕ) (n : ℕ) (l : List A) → Once (map g l) → Once (map g (dropAt n l))
-  once-map-dropAt g n [] o = tt
-  once-map-dropAt g zero (a ∷ l) o = o .1
-  once-map-dropAt g (suc n) (a ∷ l) o = (has-map-dropAt (g a) g n l (o .0), once-map-dropAt g n l (o .1))
 
   pub once-map-snoc : (g : A → ℕ) (x : A) (l : List A) → has (g x) (map g l) ≡ false → Once (map g l) → Once (map g (l ++ (x ∷ [])))
   once-map-snoc g x [] e o = (refl, tt)

@@ -4,6 +4,7 @@ use Rattle.rules.specs.Runs.{runs}
 use Rattle.rules.specs.Orders.{orders}
 use Rattle.rules.specs.Bounds.{bounds}
 use Rattle.rules.specs.Histories.{histories}
+use Rattle.rules.specs.CacheRuns.{cache-runs}
 use Rattle.rules.specs.Theorem.{Theorem}
 use Rattle.rules.proofs.Steps.{refusals-leave, three-ends, four-ends}
 use Rattle.rules.proofs.Sessionless.{spares-sessions}
@@ -14,6 +15,7 @@ use Rattle.rules.proofs.Demand2.{reads-show}
 use Rattle.rules.proofs.Frames.{writes-only, commit-leaves-store, lease-unseen, fills-only}
 use Rattle.rules.proofs.Numbers.{numbers-rise}
 use Rattle.rules.proofs.Answers.{some-pick, answers-count}
+use Rattle.rules.proofs.CacheOrder.{in-read-order, oldest-gives-way, commit-caches-none, clock-leaves-order, only-sweep-chooses}
 
 pub theorem : Theorem
 theorem =
@@ -35,6 +37,11 @@ theorem =
       answersCount = answers-count;
       numbersRise = numbers-rise;
       leaseUnseen = lease-unseen;
+      inReadOrder = in-read-order;
+      oldestGivesWay = oldest-gives-way;
+      commitCachesNone = commit-caches-none;
+      clockLeavesOrder = clock-leaves-order;
+      onlySweepChooses = only-sweep-chooses;
       demand3 = demand3;
       edges = edges;
       paperRun = paper-run;
@@ -42,4 +49,5 @@ theorem =
       orders = orders;
       bounds = bounds;
       histories = histories;
+      cacheRuns = cache-runs;
     }

@@ -1,10 +1,11 @@
 -- What the numbers of an answer mean, told by the tables before the call and after it. p is the plant before, q the plant after.
-use Prim.Native.Nat.{_+_, _<_, _≤_, ℕ}
+use Prim.Native.Nat.{_+_, _≤_, ℕ}
 use mathlib.Core.Path.{_≡_}
-use mathlib.Core.Bool.{Bool, _&&_, false, not, true}
+use mathlib.Core.Bool.{Bool, _&&_, cond, false, not, true}
 use mathlib.Core.Logic.{_⊎_}
 use mathlib.Core.List.{List, [], _++_, _∷_}
 use lib.ListN.{length}
+use lib.Dec.{leb}
 use lib.IntN.{pos, ℤ}
 use Rattle.rules.specs.Lists.{keep, any, dropAt, has}
 use Rattle.rules.specs.Limits.{cacheLimit, rowLimit, sweepLimit}
@@ -21,14 +22,11 @@ pub record Opens (n : ℕ) (p q : Plant) : Type 0 where
   pub new : session n (q .slots) ≡ record { begun = p .clock; doomed = false; lease = λ d. free; changes = [] }
 
 -- ── read ──
--- the key stands last among the cached ones; the others stand as they stood, but that of sixteen one gave way
+-- the key stands last among the cached ones; the others stand as they stood, but that of sixteen the first gave way
 pub record CachesLast (k : ℕ) (before after : List Cached) : Type 0 where
-  pub others : List Cached
   pub new : Cached
   pub key : new .key ≡ k
-  pub last : after ≡ others ++ (new ∷ [])
-  pub stand : ((length before < cacheLimit) × (others ≡ before))
-      ⊎ ((length before ≡ cacheLimit) × (n : ℕ) × (n < cacheLimit) × (others ≡ dropAt n before))
+  pub last : after ≡ cond (leb cacheLimit (length before)) (dropAt 0 before) before ++ (new ∷ [])
 
 -- of a key k and whether an own change touches a place of it, with the cached keys before and after
 abbrev pub Marks : Mark → ℕ → Bool → List Cached → List Cached → Type 0

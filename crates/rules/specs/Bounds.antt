@@ -1,5 +1,5 @@
 -- Both edges of the limits: the last that is taken and the first that is not. Those of M1 to M12 stand in Edges, those of one refusal alone in Runs.
-use Prim.Native.Nat.{_<_, _≤_, ℕ}
+use Prim.Native.Nat.{_≤_, ℕ}
 use mathlib.Core.Path.{_≡_, refl}
 use mathlib.Core.Bool.{false, true, false≢true}
 use mathlib.Core.List.{List, [], _++_, _∷_}
@@ -17,7 +17,7 @@ use Rattle.rules.specs.Conditions.{conditions}
 use Rattle.rules.specs.Effects.{loaded, mapped, opened, begun, cacheAfter, onlyAt, afterRead, withExclusive, withLast, grant, changed, committed, abandoned, lapses, lapse, loses, isLost, inDocuments, stays, advanced, taken, carried, applied, deleted, cut, swept}
 use Rattle.rules.specs.Step.{accepted, step, Allowed}
 use Rattle.rules.specs.Kept.{kept}
-use Rattle.rules.specs.Scenario.{Line, _gets_, yes, says, no, lineOf, noPick, after, Plays, pair, zeros, mapOne, read, edit, advance, takes, apply, delete, cuts, setting, origin, begins, mapKeys, readKeys, handWithRows}
+use Rattle.rules.specs.Scenario.{Line, _gets_, yes, says, no, lineOf, noPick, after, Plays, pair, zeros, mapOne, read, edit, advance, takes, apply, delete, cuts, setting, origin, begins, sixteenCached, handWithRows}
 use Rattle.rules.specs.Edges.{changing, sixMembers}
 use native.Mathlib.Omega.{arith}
 
@@ -31,11 +31,11 @@ abbrev pub withSweepable : Plant
 withSweepable = withRows (span 1 17) (withNext 18 setup)
 
 abbrev pub sweepOf : List ℕ → Pick
-sweepOf l = record { gives = 15; swept = l }
+sweepOf l = record { swept = l }
 
--- sixteen cached keys of seventeen, eight sessions, 32 buffered ones
+-- sixteen cached keys, eight sessions, 32 buffered ones
 abbrev pub cachedFull : Plant
-cachedFull = after (mapKeys 17 ++ (Begin gets says 1 ∷ readKeys 16)) setup
+cachedFull = after sixteenCached setup
 
 abbrev pub slotsFull : Plant
 slotsFull = after (begins 8 0) setup
@@ -134,12 +134,11 @@ pub record Bounds : Type 0 where
   pub rowsKept : (kept (withNext 49 (withRows (span 1 48) setup)) ≡ true) × (kept (withNext 50 (withRows (span 1 49) setup)) ≡ false)
   pub clockKept : (kept (withClock 99999999999 setup) ≡ true) × (kept (withClock 100000000000 setup) ≡ false)
   pub numbersKept : (kept (withNext 4294967296 setup) ≡ true) × (kept (withNext 4294967297 setup) ≡ false) × (kept (withNext 0 setup) ≡ false)
-  -- a sweep of sixteen rows, and none of seventeen; the last of sixteen cached keys may give way, and there is no seventeenth
+  -- a sweep of sixteen rows, and none of seventeen
   pub sixteen : Allowed (sweepOf (span 2 16)) withSweepable
       × ((step Sweep [] (sweepOf (span 2 16)) withSweepable) .answer ≡ fine (16 ∷ []))
       × (((step Sweep [] (sweepOf (span 2 16)) withSweepable) .plant) .rows ≡ 1 ∷ [])
   pub seventeen : Allowed (sweepOf (span 1 17)) withSweepable → ⊥
-  pub seventeenth : Allowed (record { gives = 16; swept = 1 ∷ [] }) withSweepable → ⊥
   -- no row twice, nor twice after another
   pub twiceLater : Allowed (sweepOf (1 ∷ 2 ∷ 2 ∷ [])) withSweepable → ⊥
 
@@ -165,8 +164,7 @@ bounds =
       rowsKept = (refl, refl);
       clockKept = (refl, refl);
       numbersKept = (refl, refl, refl);
-      sixteen = (record { oneOfSixteen = omega arith; removes = refl; once = refl; atMost = omega arith; atLeast = λ h. refl }, refl, refl);
+      sixteen = (record { removes = refl; once = refl; atMost = omega arith; atLeast = λ h. refl }, refl, refl);
       seventeen = λ a. let h : 17 ≤ 16 = a .atMost in omega arith;
-      seventeenth = λ a. let h : 16 < 16 = a .oneOfSixteen in omega arith;
       twiceLater = λ a. false≢true (a .once);
     }

@@ -18,7 +18,7 @@ use Rattle.rules.specs.Calls.{Pairs, Call, Load, Map, Begin, Read, Chang
 use Rattle.rules.specs.Conditions.{own}
 use Rattle.rules.specs.Step.{step, Allowed}
 use Rattle.rules.specs.Kept.{kept}
-use Rattle.rules.specs.History.{changesOf, History, wholeHistory, Turn, turns, AllAllowed, initial, numbersBegun}
+use Rattle.rules.specs.History.{changesOf, History, wholeHistory, Turn, turns, AllAllowed, initial, exchanges, numbersBegun}
 use Rattle.rules.specs.Answers.{Opens, Marks, Buffers, Replies, hasCome, Deletes, Reports, Sweeps}
 
 -- ── demand 1 ──
@@ -198,7 +198,7 @@ pub record Rises (ns : List ℕ) : Type 0 where
   pub ends : all (λ n. leb n lastSession) ns ≡ true
 
 abbrev pub NumbersRise : Type 0
-NumbersRise = (ts : List Turn) → Rises (numbersBegun ts (initial .plant))
+NumbersRise = (ts : List Turn) → Rises (numbersBegun (exchanges ts (initial .plant)))
 
 -- ── apply does not look at the queue lease ──
 -- under any other it answers and writes the same

@@ -6,7 +6,7 @@ use mathlib.Core.Option.{none}
 use mathlib.Core.List.{List, [], _++_, _∷_, map}
 use lib.ListN.{length}
 use lib.IntN.{pos}
-use Rattle.rules.specs.Lists.{keep, any, has, bit}
+use Rattle.rules.specs.Lists.{any, has, bit, InOrder}
 use Rattle.rules.specs.Limits.{workerCount, leaseTicks, lastTick}
 use Rattle.rules.specs.Values.{Stock, showAll}
 use Rattle.rules.specs.Changes.{meets, follow}
@@ -39,7 +39,7 @@ pub record FirstPart (h : History) (store : Stock) : Type 0 where
 
 -- what is buffered stands in commit order
 abbrev pub CommitOrder : History → Type 0
-CommitOrder h = h .buffered ≡ keep (λ n. has n (h .buffered)) (map (λ x. x .number) (h .commits))
+CommitOrder h = InOrder (h .buffered) (map (λ x. x .number) (h .commits))
 
 -- ── the drain ──
 -- what is added before the first take, in any order: a cut of the worker, advances, store 1

@@ -11,7 +11,7 @@ use Rattle.rules.specs.Values.{Place, Stock}
 use Rattle.rules.specs.Changes.{Update, follow, touches}
 use Rattle.rules.specs.Tables.{Lease, free, shared, exclusive, isHeld, hasLapsed, documents, Session, withLeases, doomedSession, Slot, session, each, freed, Cached, isCached, Batch, oldest, batchOf, unbuffer, empty, holds, handed, Queue, idle, leased, ownedBy, Plant, withStore, withKeys, withCache, withSlots, withBuffer, withRows, withHand, withQueue, withClock, withNext}
 use Rattle.rules.specs.Reading.{current, seen}
-use Rattle.rules.specs.Calls.{Fate, arrives, lost, unreached, Mark, fromCache, cachedNow, ownChange, Reply, noWord, done, doneBefore, Pick}
+use Rattle.rules.specs.Calls.{Fate, arrives, lost, unreached, Mark, fromCache, cachedNow, ownChange, Reply, noWord, done, doneBefore}
 use Rattle.rules.specs.Conditions.{noRoom}
 
 -- ── set-up ──
@@ -57,23 +57,24 @@ touched cs = any (touches cs)
 abbrev pub mark : ℕ → ℕ → Plant → Mark
 mark s k p = cond (touched ((session s (p .slots)) .changes) (p .keys k)) ownChange (cond (isCached k (p .cache)) fromCache cachedNow)
 
-abbrev pub evicted : ℕ → List Cached → List Cached
-evicted n l = cond (leb cacheLimit (length l)) (dropAt n l) l
+-- cached keys stand in the order of the reads that cached them (CacheOrder): of sixteen the one cached longest ago gives way
+abbrev pub evicted : List Cached → List Cached
+evicted l = cond (leb cacheLimit (length l)) (dropAt 0 l) l
 
--- only a read with mark 1 caches, and one of sixteen gives way
-abbrev pub cacheBy : Mark → ℕ → Cached → List Cached → List Cached
-cacheBy fromCache gives c l = l
-cacheBy cachedNow gives c l = pushed cacheLimit (evicted gives l) c
-cacheBy ownChange gives c l = l
+-- only a read with mark 1 caches
+abbrev pub cacheBy : Mark → Cached → List Cached → List Cached
+cacheBy fromCache c l = l
+cacheBy cachedNow c l = pushed cacheLimit (evicted l) c
+cacheBy ownChange c l = l
 
-unfoldable pub cacheAfter : ℕ → ℕ → Pick → Plant → List Cached
-cacheAfter s k pick p = cacheBy (mark s k p) (pick .gives) (record { key = k; fields = map (current p) (p .keys k) }) (p .cache)
+unfoldable pub cacheAfter : ℕ → ℕ → Plant → List Cached
+cacheAfter s k p = cacheBy (mark s k p) (record { key = k; fields = map (current p) (p .keys k) }) (p .cache)
 
 unfoldable pub onlyAt : ℕ → (Session → Session) → ℕ → Session → Session
 onlyAt s f m t = cond (eqb m s) (f t) t
 
-unfoldable pub afterRead : ℕ → ℕ → Pick → Plant → Plant
-afterRead s k pick p = withCache (cacheAfter s k pick p) (withSlots (each (onlyAt s (withShared (p .clock) (p .keys k))) (p .slots)) p)
+unfoldable pub afterRead : ℕ → ℕ → Plant → Plant
+afterRead s k p = withCache (cacheAfter s k p) (withSlots (each (onlyAt s (withShared (p .clock) (p .keys k))) (p .slots)) p)
 
 -- ── change ──
 -- a shared lease becomes exclusive with a fresh grant

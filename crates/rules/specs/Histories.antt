@@ -16,7 +16,7 @@ use Rattle.rules.specs.Calls.{arrives, Load, Begin, Change, Abandon, Adv
 use Rattle.rules.specs.Conditions.{conditions}
 use Rattle.rules.specs.Effects.{loaded, mapped, begun, cacheAfter, onlyAt, afterRead, withExclusive, withLast, grant, changed, committed, abandoned, lapses, lapse, loses, isLost, inDocuments, stays, advanced, taken, carried, applied, deleted, cut, swept}
 use Rattle.rules.specs.Step.{accepted, step, Allowed}
-use Rattle.rules.specs.History.{saw, wrote, Page, changesOf, Committed, History, whole, emptyHistory, withCommits, withBuffered, note, Turn, World, turns, initial, numbersBegun}
+use Rattle.rules.specs.History.{saw, wrote, Page, changesOf, Committed, History, whole, emptyHistory, withCommits, withBuffered, note, Turn, World, turns, initial, exchanges, numbersBegun}
 use Rattle.rules.specs.Demand3.{Right, AllRight, FirstPart, CommitOrder, AllBuffered, Prepares, cutWorker, bringNear, wait, preparing, rounds, NoneRefused, Drained, Holds, Demand3}
 use Rattle.rules.specs.Scenario.{Line, _gets_, yes, says, no, noPick, pair, zeros, mapTwo, read, edit, commit, report, advance, takes, apply, delete, cuts, near, origin, mapOrigin, editOrigin, setting, after, Plays, begins, slow1, latterFirst}
 
@@ -77,7 +77,7 @@ slowDelete = slow1 ++ setting 2 1 ++ (takes 1 gets says 2 ∷ apply 0 arrives ge
 abbrev pub carriedAndSwept : List Turn
 carriedAndSwept =
     turnsOf (setting 1 1 ++ (commit 1 gets no 2 ∷ takes 4 gets no 1 ∷ takes 0 gets says 1 ∷ apply 0 arrives gets says 1 ∷ delete 0 gets says 1 ∷ []))
-    ++ (record { call = Sweep; lent = []; pick = record { gives = 15; swept = 1 ∷ [] } } ∷ [])
+    ++ (record { call = Sweep; lent = []; pick = record { swept = 1 ∷ [] } } ∷ [])
 
 -- session 1 buffered, the store away and the clock's last 300 ticks ahead
 abbrev pub lateWorld : World
@@ -155,7 +155,7 @@ pub record Histories : Type 0 where
       × (map (((worldOf (loud ++ quiet)) .history) .page) (upto 6) ≡ [] ∷ page1 ∷ [] ∷ page3 ∷ page4 ∷ [] ∷ [])
       × (map (((worldOf (loud ++ quiet)) .history) .keys) (upto 3) ≡ (origin ∷ []) ∷ (record { document = 1; field = 0 } ∷ origin ∷ []) ∷ [] ∷ [])
   -- the numbers that begins answered, and no other call's
-  pub numbers : numbersBegun (turnsOf (setting 1 1 ++ setting 2 2)) setup ≡ 1 ∷ 2 ∷ []
+  pub numbers : numbersBegun (exchanges (turnsOf (setting 1 1 ++ setting 2 2)) setup) ≡ 1 ∷ 2 ∷ []
   -- a delete makes the session noted for its own worker buffered no longer
   pub deletes : (((worldOf slowDelete) .history) .buffered ≡ 2 ∷ []) × (numbersOf (((worldOf slowDelete) .plant) .buffer) ≡ 2 ∷ [])
   -- and no other, of a lower number
@@ -204,7 +204,7 @@ pub record Histories : Type 0 where
 -- without a row to remove no choice is a choice
 none-swept : {p : Plant} → any (removable p) (p .rows) ≡ false → Allowed noPick p
 none-swept e =
-    record { oneOfSixteen = omega arith; removes = refl; once = refl; atMost = omega arith; atLeast = λ h. absurd (true≢false (sym h ∙ e)) }
+    record { removes = refl; once = refl; atMost = omega arith; atLeast = λ h. absurd (true≢false (sym h ∙ e)) }
 
 number-absent : number (pos 5) ≡ absent → ⊥
 number-absent e = let z : _≡_ {A = ℕ} 0 1 = cc in omega arith
@@ -254,7 +254,7 @@ histories =
           (record { worker = refl; moves = refl; ticksLeft = omega arith; store = refl })
           (turnsOf lateCalls) (turnsOf fourOf3) refl refl
           (none-swept refl, (none-swept refl, (none-swept refl, (none-swept refl, (none-swept refl, (none-swept refl, (none-swept refl, (none-swept refl, tt))))))));
-      everyList = λ d. d carriedAndSwept (none-swept refl, (none-swept refl, (none-swept refl, (none-swept refl, (none-swept refl, (none-swept refl, (none-swept refl, (none-swept refl, (record { oneOfSixteen = omega arith; removes = refl; once = refl; atMost = omega arith; atLeast = λ h. refl }, tt)))))))));
+      everyList = λ d. d carriedAndSwept (none-swept refl, (none-swept refl, (none-swept refl, (none-swept refl, (none-swept refl, (none-swept refl, (none-swept refl, (none-swept refl, (record { removes = refl; once = refl; atMost = omega arith; atLeast = λ h. refl }, tt)))))))));
       otherWords = λ r. kinds-differ (sym (r .0));
       oldWords = λ r. kinds-differ (r .1 .0);
       unfitChange = λ r. let z : _≡_ {A = ℕ} 0 1 = cc (r .1 .0) in omega arith;

@@ -9,7 +9,7 @@ use Rattle.rules.specs.Lists.{all, pairwise, sameList, isEmpty, has, upt
 use Rattle.rules.specs.Limits.{fieldCount, keyCount, placeLimit, cacheLimit, slotLimit, changeLimit, bufferLimit, rowLimit, workerCount, leaseTicks, sessionTicks, lastTick, firstSession, lastSession}
 use Rattle.rules.specs.Values.{Place, inRange, twice, absent, fieldOk, Stock, sameField}
 use Rattle.rules.specs.Changes.{run, accepts, setsIt, updateOk}
-use Rattle.rules.specs.Tables.{Lease, free, shared, exclusive, isHeld, isExclusive, documents, Session, Slot, Cached, Batch, numbersOf, isBuffered, isOldest, pending, changesIn, Hand, empty, holds, Queue, idle, leased, Plant}
+use Rattle.rules.specs.Tables.{Lease, free, shared, exclusive, isHeld, isExclusive, documents, Session, Slot, Cached, keysOf, Batch, numbersOf, isBuffered, isOldest, pending, changesIn, Hand, empty, holds, Queue, idle, leased, Plant}
 use Rattle.rules.specs.Reading.{current}
 
 -- ── the store ──
@@ -34,7 +34,7 @@ isCurrent now keys c = sameList sameField (c .fields) (map now (keys (c .key)))
 abbrev pub cacheRules : Stock → (ℕ → List Place) → ℕ → List Cached → List Bool
 cacheRules now keys next l =
     leb (length l) cacheLimit
-    ∷ isOnce (map (λ c. c .key) l)
+    ∷ isOnce (keysOf l)
     ∷ all (isDefined keys) l
     ∷ all (isCurrent now keys) l
     ∷ (isEmpty l || ltb firstSession next)

@@ -1,5 +1,5 @@
 -- More runs worked out from paper 01: each refusal beside calls that are accepted, leases, marks, words, and the workers' calls.
-use Prim.Native.Nat.{_<_, _≤_}
+use Prim.Native.Nat.{_≤_}
 use mathlib.Core.Path.{_≡_, refl}
 use mathlib.Core.Bool.{false, true, false≢true, true≢false}
 use mathlib.Core.Option.{none, some}
@@ -18,7 +18,7 @@ use Rattle.rules.specs.Conditions.{conditions}
 use Rattle.rules.specs.Effects.{loaded, mapped, begun, cacheAfter, onlyAt, afterRead, withExclusive, withLast, grant, changed, committed, abandoned, lapses, lapse, loses, isLost, inDocuments, stays, advanced, taken, carried, applied, deleted, cut, swept}
 use Rattle.rules.specs.Step.{accepted, step, Allowed}
 use Rattle.rules.specs.Kept.{kept}
-use Rattle.rules.specs.Scenario.{Line, _gets_, yes, says, no, lineOf, after, Plays, load, pair, zeros, mapOne, mapTwo, read, edit, commit, report, advance, takes, apply, delete, cuts, near, origin, mapOrigin, editOrigin, setting, noPick, begins, setsBy, pushes, mapKeys, readKeys, handWithRows, applied1, deleted1, slow1, latterFirst, overtaken}
+use Rattle.rules.specs.Scenario.{Line, _gets_, yes, says, no, lineOf, after, Plays, load, pair, zeros, mapOne, mapTwo, read, edit, commit, report, advance, takes, apply, delete, cuts, near, origin, mapOrigin, editOrigin, setting, noPick, begins, setsBy, pushes, handWithRows, applied1, deleted1, slow1, latterFirst, overtaken}
 use Rattle.rules.specs.Edges.{changing}
 use native.Mathlib.Omega.{arith}
 
@@ -236,8 +236,8 @@ pub record Runs : Type 0 where
   pub sweeping : (removable (after applied1 setup) 1 ≡ false)
       × (removable (after slow1 setup) 1 ≡ false)
       × (removable (after deleted1 setup) 1 ≡ true)
-      × ((step Sweep [] (record { gives = 0; swept = 1 ∷ [] }) (after deleted1 setup)) .answer ≡ fine (1 ∷ []))
-      × (((step Sweep [] (record { gives = 0; swept = 1 ∷ [] }) (after deleted1 setup)) .plant) .rows ≡ [])
+      × ((step Sweep [] (record { swept = 1 ∷ [] }) (after deleted1 setup)) .answer ≡ fine (1 ∷ []))
+      × (((step Sweep [] (record { swept = 1 ∷ [] }) (after deleted1 setup)) .plant) .rows ≡ [])
   -- 19: 48 rows and this session has none; with fates 1 and 2 that is no word
   pub rows : Plays (handWithRows 2 48) (apply 0 unreached gets says 0 ∷ apply 0 lost gets says 0 ∷ apply 0 arrives gets no 19 ∷ [])
   pub rowsLeft : Plays (handWithRows 2 47) (apply 0 arrives gets says 1 ∷ [])
@@ -391,17 +391,6 @@ pub record Runs : Type 0 where
       ∷ read 1 0 gets says 1
       ∷ read 1 0 gets says 0
       ∷ [])
-  -- sixteen keys are cached; the seventeenth makes the chosen one, here the first, give way
-  pub seventeen : Plays setup
-      (mapKeys 17
-      ++ (Begin gets says 1
-      ∷ readKeys 16
-      ++ (read 1 15 gets says 0
-      ∷ read 1 16 gets says 1
-      ∷ read 1 14 gets says 0
-      ∷ read 1 16 gets says 0
-      ∷ read 1 15 gets says 1
-      ∷ [])))
   -- the six changes by their numbers, and what they leave
   pub six : (step (read 1 0) (replicate 32 (pos 9)) noPick (after
       (Load (pos 0) (pos 0) (pos 1) (pos 5) gets yes
@@ -628,17 +617,6 @@ pub record Runs : Type 0 where
       ∷ read 3 0 gets says 1
       ∷ read 3 1 gets says 1
       ∷ [])
-  -- with sixteen cached keys a read that caches nothing, with mark 0 or 2, makes none give way
-  pub fullCache : Plays setup
-      (mapKeys 17
-      ++ (Begin gets says 1
-      ∷ readKeys 16
-      ++ (read 1 15 gets says 0
-      ∷ read 1 15 gets says 0
-      ∷ edit 1 16 0 set (pos 4) gets says 1
-      ∷ read 1 16 gets says 2
-      ∷ read 1 15 gets says 0
-      ∷ [])))
   -- nor may a row go whose session is buffered no longer and in a hand that has had its reply
   pub repliedHand : removable (after (overtaken ++ (apply 0 arrives gets says 2 ∷ [])) setup) 1 ≡ false
   -- a delete leaves a lease that runs on in nobody's name
@@ -818,9 +796,9 @@ pub record Runs : Type 0 where
       × (removable (after latterFirst setup) 2 ≡ false)
       × (removable (after (latterFirst ++ (cuts 0 gets yes ∷ takes 1 gets says 1 ∷ [])) setup) 2 ≡ true)
   -- a choice of rows: not one that is buffered, not one that does not stand, none twice
-  pub noChoices : (Allowed (record { gives = 0; swept = 1 ∷ [] }) (after applied1 setup) → ⊥)
-      × (Allowed (record { gives = 0; swept = 2 ∷ [] }) (after deleted1 setup) → ⊥)
-      × (Allowed (record { gives = 0; swept = 1 ∷ 1 ∷ [] }) (after deleted1 setup) → ⊥)
+  pub noChoices : (Allowed (record { swept = 1 ∷ [] }) (after applied1 setup) → ⊥)
+      × (Allowed (record { swept = 2 ∷ [] }) (after deleted1 setup) → ⊥)
+      × (Allowed (record { swept = 1 ∷ 1 ∷ [] }) (after deleted1 setup) → ⊥)
   -- a lost apply that finds 48 rows does nothing; a change carried once is shown once, before and after the delete
   pub fullRowsLeave : (after (apply 0 lost gets says 0 ∷ []) (handWithRows 2 48)) .store origin ≡ absent
   pub shownOnce : (step (read 2 0) (replicate 8 (pos 9)) noPick (after (carriedOnce ++ (Begin gets says 2 ∷ [])) setup)) .words
@@ -850,8 +828,8 @@ pub record Runs : Type 0 where
       ∷ workerCount ∷ sweepLimit ∷ wordsPerField ∷ leaseTicks ∷ sessionTicks ∷ advanceLimit ∷ lastTick ∷ firstSession ∷ lastSession ∷ []
       ≡ 64 ∷ 4 ∷ 32 ∷ 4 ∷ 6 ∷ 16 ∷ 8 ∷ 8 ∷ 32 ∷ 48
       ∷ 4 ∷ 16 ∷ 8 ∷ 300 ∷ 1000 ∷ 65535 ∷ 99999999999 ∷ 1 ∷ 4294967295 ∷ []
-  -- the free choices: one of sixteen gives way, and a sweep takes at most sixteen
-  pub choices : (pick : Pick) (p : Plant) → Allowed pick p → (pick .gives < 16) × (length (pick .swept) ≤ 16)
+  -- the free choice: a sweep takes at most sixteen
+  pub choices : (pick : Pick) (p : Plant) → Allowed pick p → length (pick .swept) ≤ 16
   -- the refusals by their numbers
   pub refusals : map refusalNumber
       (outOfRange ∷ noSlot ∷ wasDoomed ∷ exclusiveElsewhere ∷ changesFull ∷ wrongKind ∷ seventhMember ∷ sumTooLarge ∷ keyUndefined ∷ slotsFull
@@ -910,7 +888,6 @@ runs =
       otherLease = refl;
       lapseDrops = refl;
       markByPlace = refl;
-      seventeen = refl;
       six = refl;
       pulls = (refl, refl);
       badPairs = refl;
@@ -935,7 +912,6 @@ runs =
       goneLease = refl;
       markByAny = refl;
       bufferedKnown = refl;
-      fullCache = refl;
       repliedHand = refl;
       nobodysStays = refl;
       nameless = (refl, refl);
@@ -962,7 +938,7 @@ runs =
       refusedSpare = refl;
       carriesOne = (refl, refl);
       limits = refl;
-      choices = λ pick p a. (omega (arith, a .oneOfSixteen), omega (arith, a .atMost));
+      choices = λ pick p a. omega (arith, a .atMost);
       refusals = refl;
       numbers = refl;
       computes = (refl, refl);

@@ -41,7 +41,7 @@ lineOf (fine ns) = 0 ∷ ns
 -- ── runs ──
 -- no choice is made in these runs; the longest key's words are lent
 abbrev pub noPick : Pick
-noPick = record { gives = 0; swept = [] }
+noPick = record { swept = [] }
 
 abbrev pub alone : Call → Plant → Result
 alone c p = step c (replicate (wordsPerField * placeLimit) (pos 0)) noPick p
@@ -143,6 +143,10 @@ mapKeys (suc n) = mapOne n (pair n 0) gets yes ∷ mapKeys n
 abbrev pub readKeys : ℕ → List Line
 readKeys zero = []
 readKeys (suc n) = read 1 n gets says 1 ∷ readKeys n
+
+-- of eighteen keys 15 to 0 are cached, 15 first
+abbrev pub sixteenCached : List Line
+sixteenCached = mapKeys 18 ++ (Begin gets says 1 ∷ readKeys 16)
 
 -- session 1 in worker 0's hand, and k rows from n on
 abbrev pub handWithRows : ℕ → ℕ → Plant

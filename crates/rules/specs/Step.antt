@@ -1,5 +1,5 @@
--- A call: refused by its first condition that holds, or accepted; and what holds of the free choices.
-use Prim.Native.Nat.{_*_, _+_, _<_, _≤_, suc, ℕ}
+-- A call: refused by its first condition that holds, or accepted; and what holds of the free choice.
+use Prim.Native.Nat.{_*_, _+_, _≤_, suc, ℕ}
 use mathlib.Core.Path.{_≡_}
 use mathlib.Core.Bool.{Bool, _&&_, cond, false, not, true}
 use mathlib.Core.Option.{Option, none, some}
@@ -7,7 +7,7 @@ use mathlib.Core.List.{List, [], _++_, _∷_, map}
 use lib.ListN.{drop, length, take}
 use lib.IntN.{ℤ}
 use Rattle.rules.specs.Lists.{keep, any, all, isEmpty, has, caseOf, bit, isOnce}
-use Rattle.rules.specs.Limits.{cacheLimit, sweepLimit, wordsPerField}
+use Rattle.rules.specs.Limits.{sweepLimit, wordsPerField}
 use Rattle.rules.specs.Refusals.{Refusal, endsSession, first}
 use Rattle.rules.specs.Values.{natOf, showAll}
 use Rattle.rules.specs.Changes.{placeOf, updateOf}
@@ -34,7 +34,7 @@ accepted (Read s k) lent pick p =
     record {
       answer = fine (markNumber (mark (natOf s) (natOf k) p) ∷ []);
       words = showAll (map (seen p (own s p)) (p .keys (natOf k))) ++ drop (wordsPerField * length (p .keys (natOf k))) lent;
-      plant = afterRead (natOf s) (natOf k) pick p;
+      plant = afterRead (natOf s) (natOf k) p;
     }
 accepted (Change s d f k v) lent pick p =
     record { answer = fine (suc (length (own s p)) ∷ []); words = lent; plant = changed (natOf s) (updateOf (placeOf d f) (natOf k) v) p }
@@ -89,10 +89,8 @@ settle (some r) c lent pick p = record { answer = refused r; words = lent; plant
 unfoldable pub step : Call → List ℤ → Pick → Plant → Result
 step c lent pick p = settle (first (conditions c lent p)) c lent pick p
 
--- ── what holds of the two free choices at a plant ──
+-- ── what holds of the free choice at a plant ──
 pub record Allowed (pick : Pick) (p : Plant) : Type 0 where
-  -- one of the sixteen cached keys gives way
-  pub oneOfSixteen : pick .gives < cacheLimit
   -- a sweep picks rows that it may remove, each once, at most 16, at least one if there is one
   pub removes : all (λ n. has n (p .rows) && removable p n) (pick .swept) ≡ true
   pub once : isOnce (pick .swept) ≡ true

@@ -82,6 +82,9 @@ pub record Cached : Type 0 where
   pub key : ℕ
   pub fields : List Field
 
+abbrev pub keysOf : List Cached → List ℕ
+keysOf = map (λ c. c .key)
+
 abbrev pub isCached : ℕ → List Cached → Bool
 isCached k = any (λ c. eqb k (c .key))
 

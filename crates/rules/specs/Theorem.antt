@@ -1,12 +1,14 @@
 -- All that is claimed of the rules.
 use Rattle.rules.specs.Refusals.{wasDoomed, exclusiveElsewhere}
 use Rattle.rules.specs.Claims.{RefusalsLeave, EndsSession, SparesSessions, WritesOnly, FillsOnly, SetupKept, StepKeeps, PickExists, KnownAway, StoreAway, SeenFits, ReadsShow, CommitLeavesStore, AnswersCount, NumbersRise, LeaseUnseen}
+use Rattle.rules.specs.CacheOrder.{InReadOrder, OldestGivesWay, CommitCachesNone, ClockLeavesOrder, OnlySweepChooses}
 use Rattle.rules.specs.Demand3.{Demand3}
 use Rattle.rules.specs.Edges.{Edges, PaperRun}
 use Rattle.rules.specs.Runs.{Runs}
 use Rattle.rules.specs.Orders.{Orders}
 use Rattle.rules.specs.Bounds.{Bounds}
 use Rattle.rules.specs.Histories.{Histories}
+use Rattle.rules.specs.CacheRuns.{CacheRuns}
 
 pub record Theorem : Type 0 where
   -- demand 1
@@ -29,6 +31,12 @@ pub record Theorem : Type 0 where
   pub answersCount : AnswersCount
   pub numbersRise : NumbersRise
   pub leaseUnseen : LeaseUnseen
+  -- the key cached longest ago gives way
+  pub inReadOrder : InReadOrder
+  pub oldestGivesWay : OldestGivesWay
+  pub commitCachesNone : CommitCachesNone
+  pub clockLeavesOrder : ClockLeavesOrder
+  pub onlySweepChooses : OnlySweepChooses
   -- demand 3
   pub demand3 : Demand3
   -- worked examples
@@ -38,3 +46,4 @@ pub record Theorem : Type 0 where
   pub orders : Orders
   pub bounds : Bounds
   pub histories : Histories
+  pub cacheRuns : CacheRuns
