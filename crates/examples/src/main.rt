@@ -154,7 +154,11 @@ fn limits() {
     example(b"store-away.lines", b"store-away.answers", 27);
     example(b"full-buffer.lines", b"full-buffer.answers", 64);
     example(b"full-rows.lines", b"full-rows.answers", 100);
+}
+
+fn cached_keys() {
     example(b"full-cache.lines", b"full-cache.answers", 122);
+    example(b"cached-again.lines", b"cached-again.answers", 17);
 }
 
 fn rules() {
@@ -176,6 +180,7 @@ fn main() {
     replies();
     mistakes();
     limits();
+    cached_keys();
     rules();
     differences();
 }
