@@ -159,6 +159,7 @@ fn limits() {
 fn cached_keys() {
     example(b"full-cache.lines", b"full-cache.answers", 122);
     example(b"cached-again.lines", b"cached-again.answers", 17);
+    example(b"oldest-updated.lines", b"oldest-updated.answers", 19);
 }
 
 fn rules() {
