@@ -470,8 +470,9 @@ impl Plant {
         }
     }
 
-    /// Caches the key. With sixteen cached, which one gives way is left free by the paper; that it
-    /// is the one cached longest ago is one allowed choice.
+    /// Caches the key, last in the order. With sixteen cached, the one cached longest ago gives way.
+    /// Only this gives a place in the order: a read from the cache and a commit that brings a key up
+    /// to date leave the order as it is, and so does the clock unless it drops a key.
     fn cache(&mut self, key: usize) {
         if self.cached_count >= CACHED {
             self.uncache(usize::from(self.cached[0]));
@@ -494,7 +495,8 @@ impl Plant {
         }
     }
 
-    /// Drops every cached key with a place in one of the documents; the others keep their order.
+    /// Drops every cached key with a place in one of the documents; the others keep their order. A
+    /// key that is cached again later is the last then.
     fn drop_cached(&mut self, set: u64) {
         let mut kept = 0;
         for at in 0..self.cached_count {
