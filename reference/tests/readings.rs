@@ -87,34 +87,6 @@ fn only_the_clock_drops() {
 }
 
 #[test]
-fn the_key_cached_longest_ago_gives_way() {
-    let mut desk = Desk::new();
-    for key in 0..18 {
-        desk.accept(&[&format!("2 {key} 1 {key} 0 0 0 0 0 0 0")]);
-    }
-    desk.accept(&["3"]);
-    for key in 0..16 {
-        assert_eq!(desk.ask(&format!("4 1 {key}")), format!("0 1 {ABSENT}"));
-    }
-    // A read from the cache gives no new place in the order, and neither does a commit.
-    desk.expect(&[
-        ("4 1 0", &format!("0 0 {ABSENT}")),
-        ("5 1 0 0 1 9", "0 1"),
-        ("4 1 0", "0 2 1 1 9 0 0 0 0 0"),
-        ("6 1", "0 1"),
-        ("3", "0 2"),
-        ("4 2 16", &format!("0 1 {ABSENT}")),
-        ("4 2 1", &format!("0 0 {ABSENT}")),
-        ("4 2 0", "0 1 1 1 9 0 0 0 0 0"),
-        ("4 2 1", &format!("0 1 {ABSENT}")),
-        ("4 2 2", &format!("0 1 {ABSENT}")),
-        ("4 2 4", &format!("0 0 {ABSENT}")),
-        ("4 2 3", &format!("0 1 {ABSENT}")),
-    ]);
-    assert_eq!(desk.plant.cached_count, 16);
-}
-
-#[test]
 fn commit_brings_cached_keys_up_to_date() {
     let mut desk = Desk::new();
     desk.accept(&[
