@@ -11,6 +11,8 @@ use crate::lines::{answer, call_columns, number_count, write_number, CALLS, COLU
 use crate::plant::*;
 use crate::random::Random;
 
+mod hits;
+
 /// What kind of file to write.
 #[derive(Clone, Copy, PartialEq, Eq, Debug)]
 pub enum Profile {
@@ -23,6 +25,8 @@ pub enum Profile {
     /// As mixed, after so many advances that the clock is near its end. These come on top of the
     /// lines asked for.
     Late,
+    /// The cache full, and reads that tell in which order keys give way.
+    Hits,
 }
 
 impl Profile {
@@ -32,6 +36,7 @@ impl Profile {
             "work" => Some(Profile::Work),
             "storm" => Some(Profile::Storm),
             "late" => Some(Profile::Late),
+            "hits" => Some(Profile::Hits),
             _ => None,
         }
     }
@@ -44,6 +49,7 @@ pub fn generate<W: Write>(to: W, seed: u64, count: u64, profile: Profile) -> io:
         Profile::Work => generator.work()?,
         Profile::Mixed => generator.mixed(&MIXED_PHASES)?,
         Profile::Storm => generator.mixed(&STORM_PHASES)?,
+        Profile::Hits => generator.hits()?,
         Profile::Late => {
             generator.approach_clock_end()?;
             generator.mixed(&MIXED_PHASES)?;
@@ -369,6 +375,9 @@ struct Generator<W: Write> {
     /// The session and the worker that calls prefer for a while.
     session: i64,
     worker: usize,
+    /// The key that left the cache last and the one read last, for the profile `hits`.
+    gone: usize,
+    read_last: usize,
     /// Whether the file's last line is left without its byte 10.
     open_end: bool,
     line: Vec<u8>,
@@ -385,6 +394,8 @@ impl<W: Write> Generator<W> {
             documents: Vec::new(),
             session: 0,
             worker: 0,
+            gone: 0,
+            read_last: 0,
             open_end: false,
             line: Vec::new(),
         }

@@ -138,10 +138,15 @@ fn work_files() {
     (300..302).for_each(|seed| check_file(seed, 2_000, Profile::Work));
 }
 
+#[test]
+fn hits_files() {
+    (400..406).for_each(|seed| check_file(seed, 2_000, Profile::Hits));
+}
+
 /// The same seed gives the same file, another one another, each with as many lines as asked for.
 #[test]
 fn files_follow_from_their_seeds() {
-    for profile in [Profile::Mixed, Profile::Work, Profile::Storm] {
+    for profile in [Profile::Mixed, Profile::Work, Profile::Storm, Profile::Hits] {
         let file = |seed: u64| {
             let mut file = Vec::new();
             generate(&mut file, seed, 500, profile).unwrap();
