@@ -1,11 +1,12 @@
 //! The history of demand 3, kept from calls and their answers alone (paper 01, "The history of demand 3").
 //!
 //! No plant is asked here. An accepted call is noted and its answer held to what the history says;
-//! a refused one notes nothing.
+//! a refused one notes nothing, except that 3 and 4 end the session's leases.
 
 use std::collections::VecDeque;
 use std::fmt;
 
+use crate::cached::Cached;
 use crate::calls::{change_of, index, place, DONE, DONE_BEFORE, NO_WORD};
 use crate::field::{Change, Field, WORDS};
 use crate::lines::{call_columns, parse, read_number, Call, CALL_COLUMNS};
@@ -24,6 +25,13 @@ pub struct Held {
     /// Reads that showed the stock of their time, and those held again at their page's place.
     pub reads: u64,
     pub committed_reads: u64,
+    /// Marks: reads from the cache, reads that cached their key, and reads of own changes.
+    pub hits: u64,
+    pub misses: u64,
+    pub own: u64,
+    /// Cached keys that gave way, and those that a lapse dropped.
+    pub gave_way: u64,
+    pub dropped: u64,
     /// Changes of committed pages.
     pub committed_changes: u64,
     pub reports: u64,
@@ -41,7 +49,8 @@ impl fmt::Display for Held {
         write!(
             to,
             "no contradiction: {} lines, {} accepted; {} pages, {} committed, {} of them buffered; \
-             {} reads held as answered, {} of them again at their commit; {} committed changes; {} reports; \
+             {} reads held as answered, {} of them again at their commit; \
+             marks held: {} hits, {} misses, {} own; {} keys gave way, {} dropped; {} committed changes; {} reports; \
              {} takes, {} applies, {} sessions carried, {} deletes, {} sweeps of {} rows",
             self.lines,
             self.accepted,
@@ -50,6 +59,11 @@ impl fmt::Display for Held {
             self.buffered,
             self.reads,
             self.committed_reads,
+            self.hits,
+            self.misses,
+            self.own,
+            self.gave_way,
+            self.dropped,
             self.committed_changes,
             self.reports,
             self.takes,
@@ -125,6 +139,7 @@ struct History {
     /// The rows that stand in the store: one for each session carried, less the swept ones.
     rows: usize,
     clock: i64,
+    cached: Cached,
     held: Held,
 }
 
@@ -158,8 +173,8 @@ fn lines(text: &[u8]) -> impl Iterator<Item = &[u8]> {
     whole.split(|&byte| byte == b'\n').take(count)
 }
 
-/// The numbers of an answer line, or none if it is a refusal.
-fn answer_numbers(answer: &[u8]) -> Result<Option<Vec<i64>>, String> {
+/// The refusal of an answer line, or 0, and its numbers.
+fn answer_parts(answer: &[u8]) -> Result<(u8, Vec<i64>), String> {
     let broken = || "the answer is not in the form of an answer line".to_string();
     let columns = answer.first_chunk().ok_or_else(broken)?;
     let refusal = call_columns(*columns).ok_or_else(broken)?;
@@ -169,13 +184,10 @@ fn answer_numbers(answer: &[u8]) -> Result<Option<Vec<i64>>, String> {
     }
     let numbers: Option<Vec<i64>> = columns.iter().map(read_number).collect();
     let numbers = numbers.ok_or_else(broken)?;
-    if refusal == 0 {
-        return Ok(Some(numbers));
-    }
-    if refusal > Refusal::BadLine.number() || !numbers.is_empty() {
+    if refusal != 0 && (refusal > Refusal::BadLine.number() || !numbers.is_empty()) {
         return Err(format!("{refusal} with {} numbers is no refusal", numbers.len()));
     }
-    Ok(None)
+    Ok((refusal, numbers))
 }
 
 /// Holds a number answered to the one that the history has.
@@ -209,15 +221,18 @@ impl History {
             carried: 0,
             rows: 0,
             clock: 0,
+            cached: Cached::default(),
             held: Held::default(),
         }
     }
 
     fn note(&mut self, call: &[u8], answer: &[u8]) -> Result<(), String> {
         self.held.lines += 1;
-        let Some(answered) = answer_numbers(answer)? else {
+        let (refusal, answered) = answer_parts(answer)?;
+        if refusal != 0 {
+            self.refused(call, refusal);
             return Ok(());
-        };
+        }
         self.held.accepted += 1;
         let Call { call, numbers } =
             parse(call).map_err(|_| "was accepted though it is no call in form".to_string())?;
@@ -246,6 +261,16 @@ impl History {
             13 => self.sweep(answered[0]),
             15 => self.report(numbers[0], &answered),
             _ => Ok(()),
+        }
+    }
+
+    /// Refusals 3 and 4 end the session that met them; its leases are gone.
+    fn refused(&mut self, call: &[u8], refusal: u8) {
+        if refusal == Refusal::Doomed.number() || refusal == Refusal::LeasedExclusive.number() {
+            let session = parse(call).map_or(0, |call| call.numbers[0]);
+            if let Ok(page) = self.open(session) {
+                self.cached.end(page);
+            }
         }
     }
 
@@ -306,6 +331,7 @@ impl History {
 
     fn begin(&mut self, session: i64) -> Result<(), String> {
         equal("begin", session, self.pages.len() + 1)?;
+        self.cached.begin(self.pages.len(), self.clock);
         self.pages.push(Page::default());
         self.held.pages += 1;
         Ok(())
@@ -320,19 +346,39 @@ impl History {
         if shown != expected {
             return Err(format!("read showed {shown:?}, the history has {expected:?}"));
         }
-        let own = self.pages[page].changes().any(|change| places.contains(&change.place));
-        if !(0..=2).contains(&mark) || own != (mark == 2) {
-            let has = if own { "has a" } else { "has no" };
-            return Err(format!("read marked its answer {mark}, but the session {has} change to a place of the key"));
-        }
+        self.mark(page, key as usize, &places, mark)?;
+        self.cached.read(page, &places, self.clock);
         self.pages[page].entries.push(Entry::Read { places, words: shown.to_vec() });
         self.held.reads += 1;
+        Ok(())
+    }
+
+    /// Request (a): the mark follows from the reads before, as the key cached longest ago gives way.
+    fn mark(&mut self, page: usize, key: usize, places: &[u8], mark: i64) -> Result<(), String> {
+        let own = self.pages[page].changes().any(|change| places.contains(&change.place));
+        let (due, why) = match (own, self.cached.has(key)) {
+            (true, _) => (2, "the session has a change to a place of the key"),
+            (false, true) => (0, "the key is cached"),
+            (false, false) => (1, "the key is not cached"),
+        };
+        if mark != due {
+            return Err(format!("read marked its answer {mark}, but {why}"));
+        }
+        match due {
+            0 => self.held.hits += 1,
+            1 => {
+                self.held.misses += 1;
+                self.held.gave_way += u64::from(self.cached.cache(key, places));
+            }
+            _ => self.held.own += 1,
+        }
         Ok(())
     }
 
     fn change(&mut self, numbers: &[i64], count: i64) -> Result<(), String> {
         let page = self.open(numbers[0])?;
         let change = change_of(numbers[1], numbers[2], numbers[3], numbers[4]).map_err(out_of_range)?;
+        self.cached.change(page, change.place, self.clock);
         self.pages[page].entries.push(Entry::Change(change));
         let changes = self.pages[page].changes().count();
         equal("change", count, changes)?;
@@ -368,6 +414,7 @@ impl History {
             }
         }
         self.pages[page].ended = true;
+        self.cached.end(page);
         self.held.committed += 1;
         self.held.committed_changes += changes;
         if changes > 0 {
@@ -382,6 +429,7 @@ impl History {
     fn abandon(&mut self, session: i64) -> Result<(), String> {
         let page = self.open(session)?;
         self.pages[page] = Page { ended: true, ..Page::default() };
+        self.cached.end(page);
         Ok(())
     }
 
@@ -390,6 +438,7 @@ impl History {
         if clock != self.clock {
             return Err(format!("advance answered {clock}, the ticks add up to {}", self.clock));
         }
+        self.held.dropped += self.cached.advance(self.clock) as u64;
         Ok(())
     }
 

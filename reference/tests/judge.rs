@@ -9,14 +9,13 @@ use reference_plant::plant::Plant;
 use reference_plant::serve::serve;
 
 /// A dialogue of short calls and short answers as the two files.
-fn files(dialogue: &[(&str, &str)]) -> (Vec<u8>, Vec<u8>) {
-    let file = |short: &mut dyn Iterator<Item = &str>| short.map(|short| line(short) + "\n").collect::<String>();
-    let calls = file(&mut dialogue.iter().map(|(call, _)| *call));
-    let answers = file(&mut dialogue.iter().map(|(_, answer)| *answer));
+fn files<S: AsRef<str>>(dialogue: &[(S, S)]) -> (Vec<u8>, Vec<u8>) {
+    let calls: String = dialogue.iter().map(|(call, _)| line(call.as_ref()) + "\n").collect();
+    let answers: String = dialogue.iter().map(|(_, answer)| line(answer.as_ref()) + "\n").collect();
     (calls.into_bytes(), answers.into_bytes())
 }
 
-fn judged(dialogue: &[(&str, &str)]) -> Result<Held, u64> {
+fn judged<S: AsRef<str>>(dialogue: &[(S, S)]) -> Result<Held, u64> {
     let (calls, answers) = files(dialogue);
     judge(&calls, &answers).map_err(|contradiction| contradiction.line)
 }
@@ -60,6 +59,11 @@ fn a_right_dialogue_is_held() {
         buffered: 1,
         reads: 3,
         committed_reads: 3,
+        hits: 1,
+        misses: 1,
+        own: 1,
+        gave_way: 0,
+        dropped: 0,
         committed_changes: 2,
         reports: 2,
         takes: 2,
@@ -70,7 +74,7 @@ fn a_right_dialogue_is_held() {
         swept: 1,
     };
     assert_eq!(judged(DIALOGUE), Ok(held));
-    assert_eq!(judged(&[]), Ok(Held::default()));
+    assert_eq!(judged::<&str>(&[]), Ok(Held::default()));
 }
 
 /// The dialogue with the answer of one line replaced must be refused at that line, or at a later
@@ -89,6 +93,9 @@ fn a_tampered_dialogue_is_refused() {
         (8, "0 1 1 1 75 0 0 0 0 0 2 1 7 0 0 0 0 0", 8),
         (11, "0 0 1 1 100 0 0 0 0 0 0 0 0 0 0 0 0 0", 11),
         (11, "0 2 1 1 75 0 0 0 0 0 2 1 7 0 0 0 0 0", 11),
+        (5, "0 0 1 1 100 0 0 0 0 0 0 0 0 0 0 0 0 0", 5),
+        (8, "0 0 1 1 75 0 0 0 0 0 2 1 7 0 0 0 0 0", 8),
+        (11, "0 1 1 1 75 0 0 0 0 0 2 1 7 0 0 0 0 0", 11),
         (11, "0 0 1 1 75 0 0 0 0 0", 11),
         // Counts of change, report and commit.
         (6, "0 2", 6),
@@ -223,6 +230,102 @@ fn a_second_done_is_refused() {
     assert_eq!(judged(&dialogue), Err(10));
 }
 
+/// Calls and answers after which sixteen keys are cached, 0 to 15 in this order, by session 1. Keys 16 and 17 are not;
+/// key k is at field 0 of document k.
+fn sixteen_cached() -> Vec<(String, String)> {
+    let map = |key: u64| (format!("2 {key} 1 {key} 0 0 0 0 0 0 0"), "0".to_string());
+    let mut dialogue: Vec<(String, String)> = (0..18).map(map).collect();
+    dialogue.push(("3".to_string(), "0 1".to_string()));
+    dialogue.extend((0..16).map(|key| with_words(&format!("4 1 {key}"), "0 1")));
+    dialogue
+}
+
+/// The call and its answer; after the mark of a read the words of an absent field.
+fn with_words(call: &str, answer: &str) -> (String, String) {
+    let words = if call.starts_with("4 ") && answer.starts_with("0 ") { " 0 0 0 0 0 0 0 0" } else { "" };
+    (call.to_string(), format!("{answer}{words}"))
+}
+
+/// With sixteen cached the dialogue is held, and its last line is a read whose other mark is refused there.
+fn last_mark_is_held(dialogue: &[(&str, &str)]) {
+    let mut whole = sixteen_cached();
+    whole.extend(dialogue.iter().map(|(call, answer)| with_words(call, answer)));
+    assert!(judged(&whole).is_ok(), "{dialogue:?}: {:?}", judged(&whole));
+    let lines = whole.len() as u64;
+    let (call, right) = dialogue[dialogue.len() - 1];
+    let wrong = if right == "0 0" { "0 1" } else { "0 0" };
+    *whole.last_mut().unwrap() = with_words(call, wrong);
+    assert_eq!(judged(&whole), Err(lines), "{dialogue:?} with {wrong}");
+}
+
+#[test]
+fn which_key_gives_way_is_held() {
+    // None of sixteen is gone; then the first is, and neither the second nor the newest.
+    last_mark_is_held(&[("4 1 0", "0 0")]);
+    last_mark_is_held(&[("4 1 16", "0 1")]);
+    last_mark_is_held(&[("4 1 16", "0 1"), ("4 1 0", "0 1")]);
+    last_mark_is_held(&[("4 1 16", "0 1"), ("4 1 1", "0 0")]);
+    last_mark_is_held(&[("4 1 16", "0 1"), ("4 1 15", "0 0")]);
+    last_mark_is_held(&[("4 1 16", "0 1"), ("4 1 16", "0 0")]);
+    last_mark_is_held(&[("4 1 16", "0 1"), ("8 0", "0 0"), ("4 1 17", "0 1"), ("8 299", "0 299"), ("4 1 1", "0 1")]);
+}
+
+#[test]
+fn a_hit_counted_as_caching_is_refused() {
+    last_mark_is_held(&[("4 1 0", "0 0"), ("4 1 16", "0 1"), ("4 1 0", "0 1")]);
+    last_mark_is_held(&[("4 1 0", "0 0"), ("4 1 16", "0 1"), ("4 1 1", "0 0")]);
+}
+
+#[test]
+fn a_commit_counted_as_caching_is_refused() {
+    // Unset leaves the field absent and is a change all the same.
+    let commit = [("6 1", "0 0"), ("3", "0 2"), ("5 2 0 0 2 0", "0 1"), ("6 2", "0 1"), ("3", "0 3")];
+    last_mark_is_held(&[&commit[..], &[("4 3 0", "0 0")]].concat());
+    last_mark_is_held(&[&commit[..], &[("4 3 16", "0 1"), ("4 3 0", "0 1")]].concat());
+    last_mark_is_held(&[&commit[..], &[("4 3 16", "0 1"), ("4 3 1", "0 0")]].concat());
+}
+
+#[test]
+fn a_read_that_cached_nothing_gives_no_place() {
+    last_mark_is_held(&[("14 0", "0"), ("4 1 16", "20"), ("4 1 0", "0 0")]);
+    last_mark_is_held(&[("5 1 16 0 2 0", "0 1"), ("4 1 16", "0 2"), ("4 1 0", "0 0")]);
+    // Neither does the own change to a cached key drop it.
+    last_mark_is_held(&[("5 1 0 0 2 0", "0 1"), ("4 1 0", "0 2"), ("7 1", "0"), ("3", "0 2"), ("4 2 0", "0 0")]);
+}
+
+#[test]
+fn what_a_lapse_drops_is_held() {
+    // Session 2 holds document 0 and lapses to the tick; the key counts anew when it comes back.
+    let lapse = [("6 1", "0 0"), ("3", "0 2"), ("4 2 0", "0 0"), ("8 300", "0 300"), ("3", "0 3")];
+    last_mark_is_held(&[&lapse[..3], &[("8 299", "0 299"), ("3", "0 3"), ("4 3 0", "0 0")]].concat());
+    last_mark_is_held(&[&lapse[..], &[("4 3 0", "0 1")]].concat());
+    last_mark_is_held(&[&lapse[..], &[("4 3 1", "0 0")]].concat());
+    last_mark_is_held(&[&lapse[..], &[("4 3 16", "0 1"), ("4 3 1", "0 0")]].concat());
+    last_mark_is_held(&[&lapse[..], &[("4 3 0", "0 1"), ("4 3 16", "0 1"), ("4 3 0", "0 0")]].concat());
+    last_mark_is_held(&[&lapse[..], &[("4 3 0", "0 1"), ("4 3 16", "0 1"), ("4 3 1", "0 1")]].concat());
+    // A session lapses a thousand ticks after its begin, whatever it holds.
+    let begun = [("6 1", "0 0"), ("3", "0 2"), ("8 900", "0 900"), ("4 2 0", "0 0"), ("8 99", "0 999")];
+    last_mark_is_held(&[&begun[..], &[("4 2 0", "0 0")]].concat());
+    last_mark_is_held(&[&begun[..], &[("8 1", "0 1000"), ("3", "0 3"), ("4 3 0", "0 1")]].concat());
+    // From shared to exclusive the grant is fresh; an exclusive one is not renewed.
+    let fresh = [("6 1", "0 0"), ("3", "0 2"), ("4 2 0", "0 0"), ("8 200", "0 200"), ("5 2 0 1 2 0", "0 1")];
+    let used = [("8 299", "0 499"), ("5 2 0 1 2 0", "0 2"), ("4 2 0", "0 0")];
+    last_mark_is_held(&[&fresh[..], &used[..]].concat());
+    last_mark_is_held(&[&fresh[..], &used[..], &[("8 1", "0 500"), ("3", "0 3"), ("4 3 0", "0 1")]].concat());
+}
+
+/// A session that was doomed by another's change or ended by refusal 4 holds nothing: its lapse drops nothing.
+#[test]
+fn sessions_that_hold_nothing_drop_nothing() {
+    let doomed = [("3", "0 2"), ("5 2 0 1 2 0", "0 1"), ("8 300", "0 300"), ("3", "0 3")];
+    last_mark_is_held(&[&doomed[..], &[("4 3 0", "0 1")]].concat());
+    last_mark_is_held(&[&doomed[..], &[("4 3 1", "0 0")]].concat());
+    let hindered = [("3", "0 2"), ("5 2 17 1 2 0", "0 1"), ("4 1 17", "4"), ("8 1000", "0 1000"), ("3", "0 3")];
+    last_mark_is_held(&[&hindered[..], &[("4 3 0", "0 0")]].concat());
+    let refused = [("3", "0 2"), ("5 2 17 1 2 0", "0 1"), ("5 1 17 0 2 0", "4"), ("8 300", "0 300"), ("3", "0 3")];
+    last_mark_is_held(&[&refused[..], &[("4 3 15", "0 0")]].concat());
+}
+
 fn generated(seed: u64, lines: u64, profile: Profile) -> (Vec<u8>, Vec<u8>) {
     let (mut calls, mut answers) = (Vec::new(), Vec::new());
     generate(&mut calls, seed, lines, profile).unwrap();
@@ -232,7 +335,7 @@ fn generated(seed: u64, lines: u64, profile: Profile) -> (Vec<u8>, Vec<u8>) {
 
 #[test]
 fn generated_files_are_held() {
-    for profile in [Profile::Mixed, Profile::Work, Profile::Storm] {
+    for profile in [Profile::Mixed, Profile::Work, Profile::Storm, Profile::Hits] {
         for seed in 1..6 {
             let (calls, answers) = generated(seed, 5_000, profile);
             let held = judge(&calls, &answers).unwrap_or_else(|contradiction| panic!("{seed}: {contradiction}"));
@@ -244,19 +347,26 @@ fn generated_files_are_held() {
 /// In generated files each number that the history determines is changed by one, one at a time.
 #[test]
 fn each_tampered_number_is_refused() {
-    for (seed, profile) in [(1, Profile::Work), (2, Profile::Mixed), (3, Profile::Mixed), (4, Profile::Storm)] {
+    let files = [
+        (1, Profile::Work),
+        (2, Profile::Mixed),
+        (3, Profile::Mixed),
+        (4, Profile::Storm),
+        (5, Profile::Hits),
+        (6, Profile::Hits),
+    ];
+    for (seed, profile) in files {
         let (calls, answers) = generated(seed, 700, profile);
         let calls_apart: Vec<&[u8]> = calls.split(|&byte| byte == b'\n').collect();
         let answers_apart: Vec<&[u8]> = answers.strip_suffix(b"\n").unwrap().split(|&byte| byte == b'\n').collect();
         let mut tampered_numbers = 0;
         for (at, answer) in answers_apart.iter().enumerate() {
             let numbers = answer.len() / 12;
-            // Not the mark of read, nor sweep's count, of which the history knows the limits only.
-            let first = usize::from(calls_apart[at].starts_with(b" 4"));
+            // Not sweep's count, of which the history knows the limits only.
             if calls_apart[at].starts_with(b"13") {
                 continue;
             }
-            for number in first..numbers {
+            for number in 0..numbers {
                 let columns = 2 + 12 * number..14 + 12 * number;
                 let text = std::str::from_utf8(&answer[columns.clone()]).unwrap();
                 let value: i64 = text.trim().parse().unwrap();
@@ -269,8 +379,8 @@ fn each_tampered_number_is_refused() {
                 let contradiction = judge(&calls, &file).expect_err("a number was changed");
                 assert_eq!(contradiction.line, at as u64 + 1);
                 tampered_numbers += 1;
-                // Of a read, the words of the first place and one more are enough.
-                if first == 1 && number > first + 8 {
+                // Of a read, the mark, the words of the first place and one more are enough.
+                if number > 9 {
                     break;
                 }
             }
