@@ -42,7 +42,7 @@ abbrev pub exchange : Call → Answer → Exchange
 exchange c a = record { call = c; answer = a }
 
 pub record CacheRuns : Type 0 where
-  -- the thenSixteen key makes none give way, nor does a read with mark 0; the seventeenth makes 15 do so, though it was read just before;
+  -- the sixteenth key makes none give way, nor does a read with mark 0; the seventeenth makes 15 do so, though it was read just before;
   -- its return 14; and so on
   pub seventeen : Plays setup
       (sixteenCached
