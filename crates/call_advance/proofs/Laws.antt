@@ -20,7 +20,7 @@ use Rattle.rules.specs.Conditions.{conditions}
 use Rattle.rules.specs.Effects.{advanced, stays, isLost, lapse, lapsedQueue}
 use Rattle.rules.specs.Step.{accepted}
 use Rattle.rules.proofs.Laws.{byCase, not-met}
-use Rattle.promises.specs.Promise.{chosen, result, Performs}
+use Rattle.promises.specs.Promise.{result, Performs}
 use Rattle.promises.proofs.Telling.{refuses, accepts, none-held, left-accepted}
 use Rattle.arguments.specs.Numbers.{indexNumber}
 use Rattle.arguments.proofs.Numbers.{held, outside, inside, inside-is, index-is}
@@ -67,7 +67,7 @@ module _ (p : Plant) (z : ℤ) (fits : SFits w64 z) (n : ℕ) (e : n ≡ indexNu
 
   pub out-of-range : advanceLimit < n → Answered (refused outOfRange)
   unfolding conditions _⇒_
-  out-of-range l = refuses (Advance z) lent (chosen (viewPlant p)) (viewPlant p) _ (rw (outside z fits (suc advanceLimit) n e (omega arith)) refl)
+  out-of-range l = refuses (Advance z) lent (viewPlant p) _ (rw (outside z fits (suc advanceLimit) n e (omega arith)) refl)
 
   module _ (l : n ≤ advanceLimit) (now : ℕ) (en : now ≡ cond (ltb lastTick (p .clock + n)) (suc lastTick) (p .clock + n)) where
     in-range : below z (suc advanceLimit) ≡ true
@@ -78,14 +78,14 @@ module _ (p : Plant) (z : ℤ) (fits : SFits w64 z) (n : ℕ) (e : n ≡ indexNu
 
     pub clock-ends : lastTick < now → Answered (refused clockEnd)
     unfolding conditions viewPlant _⇒_
-    clock-ends h = refuses (Advance z) lent (chosen (viewPlant p)) (viewPlant p) _ (rw (in-range, ticks-are, past-end (p .clock + n) now en h) refl)
+    clock-ends h = refuses (Advance z) lent (viewPlant p) _ (rw (in-range, ticks-are, past-end (p .clock + n) now en h) refl)
 
     pub tick-told : now ≤ lastTick → Answered (fine (now ∷ []))
     unfolding conditions viewPlant _⇒_ accepted
     tick-told h =
         let w : ltb lastTick (p .clock + n) ≡ false = within (p .clock + n) now en h in
         ap (λ (t : ℕ). fine (t ∷ [])) (is-later (p .clock + n) now en w ∙ ap (λ (m : ℕ). p .clock + m) (sym ticks-are))
-        ∙ accepts (Advance z) lent (chosen (viewPlant p)) (viewPlant p) (rw (in-range, ticks-are, w) refl)
+        ∙ accepts (Advance z) lent (viewPlant p) (rw (in-range, ticks-are, w) refl)
 
 -- ── the plant left ──
 module _ (p : Plant) (z : ℤ) (fits : SFits w64 z) (n : ℕ) (e : n ≡ indexNumber (held z) (suc advanceLimit))
@@ -100,13 +100,13 @@ module _ (p : Plant) (z : ℤ) (fits : SFits w64 z) (n : ℕ) (e : n ≡ indexNu
   pub gone-on : Performs (Advance z) p goneOn
   unfolding conditions viewPlant accepted advanced
   gone-on kept lent h =
-      let m = none-held (Advance z) lent (chosen (viewPlant p)) (viewPlant p) _ refl h in
+      let m = none-held (Advance z) lent (viewPlant p) _ refl h in
       let g : below z (suc advanceLimit) ≡ true = not-false (below z (suc advanceLimit)) (not-met _ outOfRange (m .0)) in
       let i : natOf z ≡ n = index-is z fits (suc advanceLimit) n e g in
       let w : ltb lastTick (p .clock + n) ≡ false = rw i at (not-met (ltb lastTick (p .clock + natOf z)) clockEnd (m .1 .0)) in
       let t : now ≡ p .clock + natOf z = is-later (p .clock + n) now en w ∙ ap (λ (k : ℕ). p .clock + k) (sym i) in
       rw (ec, el, es, eq, t) refl
-      ∙ left-accepted (Advance z) lent (chosen (viewPlant p)) (viewPlant p) m
+      ∙ left-accepted (Advance z) lent (viewPlant p) m
 
   pub gone-on-form : (cacheForm (p .cache) ≡ true → cacheForm ca ≡ true) → (sessionsForm (p .sessions) ≡ true → sessionsForm ss ≡ true) → (queueForm (p .queue) ≡ true → queueForm q ≡ true)
       → plantForm p ≡ true → plantForm goneOn ≡ true

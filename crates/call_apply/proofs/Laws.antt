@@ -28,7 +28,7 @@ use Rattle.rules.proofs.Tests.{all-head, all-tail}
 use Rattle.rules.proofs.Buffer.{and-false}
 use Rattle.rules.proofs.KeptTest.{kept-iff}
 use Rattle.answers.specs.View.{isRefused}
-use Rattle.promises.specs.Promise.{chosen, result, Performs}
+use Rattle.promises.specs.Promise.{result, Performs}
 use Rattle.promises.proofs.Worker.{hand-at}
 use Rattle.promises.proofs.Telling.{refuses, accepts, none-held, left-accepted}
 use Rattle.arguments.specs.Numbers.{indexNumber}
@@ -102,12 +102,12 @@ module _ (p : Plant) (z y : ℤ) (fz : SFits w64 z) (w : ℕ) (ew : w ≡ indexN
 
   pub no-worker : workerCount ≤ w → Answered (refused outOfRange)
   unfolding conditions _⇒_
-  no-worker l = refuses (Apply z y) lent (chosen (viewPlant p)) (viewPlant p) _ (rw (outside z fz workerCount w ew l) refl)
+  no-worker l = refuses (Apply z y) lent (viewPlant p) _ (rw (outside z fz workerCount w ew l) refl)
 
   module _ (lw : w < workerCount) (fy : SFits w64 y) (f : ℕ) (ef : f ≡ indexNumber (held y) fateCount) where
     pub no-fate : fateCount ≤ f → Answered (refused outOfRange)
     unfolding conditions _⇒_
-    no-fate l = refuses (Apply z y) lent (chosen (viewPlant p)) (viewPlant p) _ (rw (inside z fz workerCount w ew lw, good-below y, outside y fy fateCount f ef l) refl)
+    no-fate l = refuses (Apply z y) lent (viewPlant p) _ (rw (inside z fz workerCount w ew lw, good-below y, outside y fy fateCount f ef l) refl)
 
     module _ (lf : f < fateCount) (h : Hand) (eh : viewHand h ≡ viewHands (p .hands) w) (b : Bool) (eb : b ≡ full (viewHand h) && not (replied (viewHand h))) where
       in-range : below z workerCount && goodFate y ≡ true
@@ -121,12 +121,12 @@ module _ (p : Plant) (z y : ℤ) (fz : SFits w64 z) (w : ℕ) (ew : w ≡ indexN
 
       pub not-waiting : not b ≡ true → Answered (refused wrongHand)
       unfolding conditions viewPlant _⇒_
-      not-waiting g = refuses (Apply z y) lent (chosen (viewPlant p)) (viewPlant p) _ (rw (in-range, waits, g) refl)
+      not-waiting g = refuses (Apply z y) lent (viewPlant p) _ (rw (in-range, waits, g) refl)
 
       module _ (g : not b ≡ false) where
         pub away : not (p .near) ≡ true → Answered (refused storeAway)
         unfolding conditions viewPlant _⇒_
-        away k = refuses (Apply z y) lent (chosen (viewPlant p)) (viewPlant p) _ (rw (in-range, waits, g, k) refl)
+        away k = refuses (Apply z y) lent (viewPlant p) _ (rw (in-range, waits, g, k) refl)
 
         module _ (k : not (p .near) ≡ false) (n : ℕ) (en : n ≡ handed (viewHand h)) where
           handed-is : handed (viewHands (p .hands) (natOf z)) ≡ n
@@ -149,16 +149,16 @@ module _ (p : Plant) (z y : ℤ) (fz : SFits w64 z) (w : ℕ) (ew : w ≡ indexN
           unfolding _⇒_ accepted
           no-word m e s r =
               ap (λ x. fine (replyNumber x ∷ [])) (sym (ap (λ x. replyTo x (natOf z) (viewPlant p)) (fate-is m e) ∙ r))
-              ∙ accepts (Apply z y) lent (chosen (viewPlant p)) (viewPlant p) (last false (rw (fate-is m e, s) refl))
+              ∙ accepts (Apply z y) lent (viewPlant p) (last false (rw (fate-is m e, s) refl))
 
           heard : f ≡ fateNumber arrives → Answered (told (viewRows (p .rows)) n f)
           unfolding told viewPlant _⇒_ accepted
           heard e =
               let i : fateOf y ≡ arrives = fate-is (fateNumber arrives) e in
               byCase (noRowFor (viewRows (p .rows)) n)
-              (λ t. rw (e, t) (refuses (Apply z y) lent (chosen (viewPlant p)) (viewPlant p) _ (last true (rw (i, room-is, t) refl))))
+              (λ t. rw (e, t) (refuses (Apply z y) lent (viewPlant p) _ (last true (rw (i, room-is, t) refl))))
               (λ t. let r : cond (has n (viewRows (p .rows))) C.doneBefore C.done ≡ replyTo (fateOf y) (natOf z) (viewPlant p) = rw (i, handed-is) refl in
-              rw (e, t) (ap (λ x. fine (replyNumber x ∷ [])) r ∙ accepts (Apply z y) lent (chosen (viewPlant p)) (viewPlant p) (last false (rw (i, room-is, t) refl))))
+              rw (e, t) (ap (λ x. fine (replyNumber x ∷ [])) r ∙ accepts (Apply z y) lent (viewPlant p) (last false (rw (i, room-is, t) refl))))
 
           pub sent : (a : C.Answer) → a ≡ told (viewRows (p .rows)) n f → Answered a
           unfolding told
@@ -217,7 +217,7 @@ module _ (p : Plant) (z y : ℤ) (fy : SFits w64 y) (f : ℕ) (ef : f ≡ indexN
   known : (lent : List ℤ) → isRefused (result (Apply z y) lent p .answer) ≡ false → Known lent
   unfolding conditions accepted
   known lent h =
-      let m = none-held (Apply z y) lent (chosen (viewPlant p)) (viewPlant p) _ refl h in
+      let m = none-held (Apply z y) lent (viewPlant p) _ refl h in
       let g = and-true (below z workerCount) (goodFate y) (not-false _ (not-met _ outOfRange (m .0))) in
       let i : below y fateCount ≡ true = sym (good-below y) ∙ g .1 in
       record {
@@ -225,7 +225,7 @@ module _ (p : Plant) (z y : ℤ) (fy : SFits w64 y) (f : ℕ) (ef : f ≡ indexN
         fate = index-is y fy fateCount f ef i;
         few = ltb-true f fateCount (index-lt y fy fateCount f ef i);
         room = not-met _ rowsFull (m .1 .1 .1 .0);
-        leaves = λ q e. e ∙ left-accepted (Apply z y) lent (chosen (viewPlant p)) (viewPlant p) m;
+        leaves = λ q e. e ∙ left-accepted (Apply z y) lent (viewPlant p) m;
       }
 
   pub not-sent : f ≡ fateNumber C.unreached → Performs (Apply z y) p p

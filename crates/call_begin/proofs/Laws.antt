@@ -24,7 +24,7 @@ use Rattle.sessions.specs.declared.Sessions.{Sessions}
 use Rattle.plant.specs.View.{viewPlant, keptPlant, plantForm}
 use Rattle.plant.specs.declared.Plant.{Plant}
 use Rattle.plant.proofs.Formed.{form-with-sessions, form-with-next}
-use Rattle.promises.specs.Promise.{chosen, result, Performs}
+use Rattle.promises.specs.Promise.{result, Performs}
 use Rattle.promises.proofs.Telling.{refuses, accepts, none-held, left-accepted}
 use Rattle.call_begin.specs.Left.{left}
 
@@ -46,23 +46,23 @@ module _ (p : Plant) (lent : List ℤ) (k : keptPlant p ≡ true) where
 
   pub spent : lastSession < p .next → Answered (refused numbersSpent)
   unfolding conditions viewPlant _⇒_
-  spent h = refuses Begin lent (chosen (viewPlant p)) (viewPlant p) _ (rw (lt-ltb lastSession (p .next) h) refl)
+  spent h = refuses Begin lent (viewPlant p) _ (rw (lt-ltb lastSession (p .next) h) refl)
 
   module _ (h : p .next ≤ lastSession) (f : Bool) (ef : f ≡ leb slotLimit (length (viewSessions (p .sessions))) && not (anyDoomed (viewSessions (p .sessions)))) where
     pub full : f ≡ true → Answered (refused slotsFull)
     unfolding conditions viewPlant _⇒_
-    full g = refuses Begin lent (chosen (viewPlant p)) (viewPlant p) _ (rw (le-ltb lastSession (p .next) h, sym ef, g) refl)
+    full g = refuses Begin lent (viewPlant p) _ (rw (le-ltb lastSession (p .next) h, sym ef, g) refl)
 
     pub begins : f ≡ false → Answered (fine (p .next ∷ []))
     unfolding conditions viewPlant _⇒_ accepted
-    begins g = accepts Begin lent (chosen (viewPlant p)) (viewPlant p) (rw (le-ltb lastSession (p .next) h, sym ef, g) refl)
+    begins g = accepts Begin lent (viewPlant p) (rw (le-ltb lastSession (p .next) h, sym ef, g) refl)
 
 -- ── the plant left ──
 -- none where the numbers are spent
 pub not-spent : (p : Plant) → lastSession < p .next → (q : Plant) → Performs Begin p q
 unfolding conditions viewPlant
 not-spent p g q k lent h =
-    let m = none-held Begin lent (chosen (viewPlant p)) (viewPlant p) _ refl h in
+    let m = none-held Begin lent (viewPlant p) _ refl h in
     absurd (omega (arith, g, ltb-false lastSession (p .next) (not-met _ numbersSpent (m .0))))
 
 module _ (p : Plant) (t : Sessions) (et : viewSessions t ≡ pushed slotLimit (room (viewSessions (p .sessions))) (opened (p .next) (p .clock))) where
@@ -74,7 +74,7 @@ module _ (p : Plant) (t : Sessions) (et : viewSessions t ≡ pushed slotLimit (r
   opens k lent h =
       let n : p .next + 1 ≡ suc (p .next) = omega arith in
       rw (et, n) refl
-      ∙ left-accepted Begin lent (chosen (viewPlant p)) (viewPlant p) (none-held Begin lent (chosen (viewPlant p)) (viewPlant p) _ refl h)
+      ∙ left-accepted Begin lent (viewPlant p) (none-held Begin lent (viewPlant p) _ refl h)
 
   pub opens-form : (sessionsForm (p .sessions) ≡ true → sessionsForm t ≡ true) → plantForm p ≡ true → plantForm withBegun ≡ true
   opens-form g f = form-with-next _ (p .next + 1) (form-with-sessions p t g f)

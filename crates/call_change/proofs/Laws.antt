@@ -50,7 +50,7 @@ use Rattle.plant.specs.declared.Plant.{Plant}
 use Rattle.answers.specs.View.{viewAnswer, viewRefusal, answerBy, isRefused}
 use Rattle.answers.specs.declared.Answer.{Answer}
 use Rattle.answers.specs.declared.Refusal as D
-use Rattle.promises.specs.Promise.{chosen, result}
+use Rattle.promises.specs.Promise.{result}
 use Rattle.promises.proofs.Telling.{refuses, answers-by}
 use Rattle.arguments.specs.change.View.{refusalAt}
 use Rattle.caller.specs.declared.Caller.{Caller}
@@ -192,7 +192,7 @@ module _ (p : Plant) (z d f k v : ℤ) (fd : SFits w64 d) (ff : SFits w64 f) (fk
 
     pub out-of-range : c .kind ≡ 0 → Answered (refused outOfRange)
     unfolding conditions _⇒_
-    out-of-range h = refuses (Change z d f k v) lent (chosen (viewPlant p)) (viewPlant p) _ (rw (sym good-is, eq-eqb (c .kind) 0 h) refl)
+    out-of-range h = refuses (Change z d f k v) lent (viewPlant p) _ (rw (sym good-is, eq-eqb (c .kind) 0 h) refl)
 
     module _ (h : c .kind ≡ 0 → ⊥) (fz : SFits w64 z) (n : ℕ) (e : n ≡ sessionNumber (held z))
         (who : Caller) (j : Judges (p .sessions) n who) (t : Bool) (et : t ≡ isRefused (viewAnswer (who .refusal))) where
@@ -219,7 +219,7 @@ module _ (p : Plant) (z d f k v : ℤ) (fd : SFits w64 d) (ff : SFits w64 f) (fk
         meeting r er =
             er
             ∙ same-answer p n (viewChanges (who .session .changes)) (viewUpdate c)
-            ∙ answers-by (Change z d f k v) lent (chosen (viewPlant p)) (viewPlant p) (suc (length (viewChanges (who .session .changes))) ∷ []) (rw own-is refl)
+            ∙ answers-by (Change z d f k v) lent (viewPlant p) (suc (length (viewChanges (who .session .changes))) ∷ []) (rw own-is refl)
             (first (laterConditions (viewPlant p) n (viewChanges (who .session .changes)) (viewUpdate c)))
             (stands asks p kept z fz n e who j t et lent g
             ∙ rw (own-is, its-number p kept z fz n e who j t et g, update-is d f k v fd ff fk fv c ec (good h))

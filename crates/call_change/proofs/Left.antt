@@ -1,6 +1,6 @@
 -- The plant that change leaves.
 use mathlib.Core.Path.{_≡_, refl, sym, _∙_, ap}
-use mathlib.Core.Bool.{Bool, true, false, not, cond, _&&_, true≢false}
+use mathlib.Core.Bool.{true, false, not, cond, _&&_, true≢false}
 use mathlib.Core.List.{List}
 use Prim.Native.Nat.{ℕ}
 use lib.Dec.{eqb, ltb}
@@ -32,7 +32,7 @@ use Rattle.plant.specs.View.{viewPlant}
 use Rattle.plant.specs.With.{withSessions}
 use Rattle.plant.specs.declared.Plant.{Plant}
 use Rattle.plant.proofs.PlantLaws.{kept-parts}
-use Rattle.promises.specs.Promise.{chosen, Performs}
+use Rattle.promises.specs.Promise.{Performs}
 use Rattle.promises.proofs.Telling.{none-held, left-accepted}
 use Rattle.promises.proofs.Numbers.{slot-is, number-is}
 use Rattle.call_change.proofs.Laws.{in-range, update-is}
@@ -54,13 +54,13 @@ module _ (p : Plant) (z d f k v : ℤ) (fd : SFits w64 d) (ff : SFits w64 f) (fk
     pub changes : Performs (Change z d f k v) p (withSessions p t)
     unfolding conditions viewPlant accepted changed
     changes kept lent h =
-        let m = none-held (Change z d f k v) lent (chosen (viewPlant p)) (viewPlant p) _ refl h in
+        let m = none-held (Change z d f k v) lent (viewPlant p) _ refl h in
         let g = was-good lent m in
         let i : M.isSlot z (viewSessions (p .sessions)) ≡ true = not-false _ (not-met _ noSlot (m .1 .0)) in
         let q : natOf z ≡ n = number-is (viewPlant p) (kept-parts p kept) z fz n e (sym (slot-is (viewPlant p) (kept-parts p kept) z fz n e) ∙ i) in
         let l : M.session n (viewSessions (p .sessions)) .doomed ≡ false = rw q at (not-met _ wasDoomed (m .1 .1 .0)) in
         rw (et, in-stock g, grant-kept n (kept-parts p kept .slots) l (viewUpdate c), update-is d f k v fd ff fk fv c ec g, q) refl
-        ∙ left-accepted (Change z d f k v) lent (chosen (viewPlant p)) (viewPlant p) m
+        ∙ left-accepted (Change z d f k v) lent (viewPlant p) m
 
 -- ── what is written is in form ──
 module _ (d f k v : ℤ) (fd : SFits w64 d) (ff : SFits w64 f) (fk : SFits w64 k) (fv : SFits w64 v) (c : Update)

@@ -46,7 +46,7 @@ use Rattle.plant.specs.View.{viewPlant, keptPlant, plantForm}
 use Rattle.plant.specs.declared.Plant.{Plant}
 use Rattle.plant.proofs.PlantLaws.{kept-parts, cache-current}
 use Rattle.plant.proofs.Formed.{form-parts, form-with-cache, form-with-sessions, form-with-buffer}
-use Rattle.promises.specs.Promise.{chosen, result, Performs}
+use Rattle.promises.specs.Promise.{result, Performs}
 use Rattle.promises.proofs.Telling.{refuses, accepts, none-held, left-accepted}
 use Rattle.promises.proofs.Numbers.{slot-is, number-is}
 use Rattle.caller.proofs.Standing.{Asks}
@@ -81,12 +81,12 @@ module _ (p : Plant) (z : ℤ) (lent : List ℤ) (s : Session)
   pub nothing-changed : b ≡ true → Answered (fine (c ∷ []))
   unfolding viewPlant _⇒_ accepted committed
   nothing-changed f =
-      ap (λ (x : ℕ). fine (x ∷ [])) (ec ∙ rw (bare, f) refl) ∙ accepts (Commit z) lent (chosen (viewPlant p)) (viewPlant p) (stands ∙ rw (bare, f) refl)
+      ap (λ (x : ℕ). fine (x ∷ [])) (ec ∙ rw (bare, f) refl) ∙ accepts (Commit z) lent (viewPlant p) (stands ∙ rw (bare, f) refl)
 
   module _ (f : b ≡ false) where
     pub full : bufferLimit ≤ c → Answered (refused bufferFull)
     unfolding viewPlant _⇒_
-    full l = refuses (Commit z) lent (chosen (viewPlant p)) (viewPlant p) _ (stands ∙ rw (bare, f, sym ec, le-leb bufferLimit c l) refl)
+    full l = refuses (Commit z) lent (viewPlant p) _ (stands ∙ rw (bare, f, sym ec, le-leb bufferLimit c l) refl)
 
     one-more : c < bufferLimit → c + 1 ≡ length (bufferedAfter (natOf z) (own z (viewPlant p)) (viewBuffer (p .buffer)))
     one-more l =
@@ -98,7 +98,7 @@ module _ (p : Plant) (z : ℤ) (lent : List ℤ) (s : Session)
     unfolding viewPlant _⇒_ accepted committed
     buffers l =
         ap (λ (x : ℕ). fine (x ∷ [])) (one-more l)
-        ∙ accepts (Commit z) lent (chosen (viewPlant p)) (viewPlant p) (stands ∙ rw (bare, f, sym ec, lt-leb bufferLimit c l) refl)
+        ∙ accepts (Commit z) lent (viewPlant p) (stands ∙ rw (bare, f, sym ec, lt-leb bufferLimit c l) refl)
 
 -- ── the plant left ──
 session-changes : (s : Session) → sessionForm s ≡ true → changesForm (s .changes) ≡ true
@@ -121,13 +121,13 @@ module _ (p : Plant) (z : ℤ) (fits : SFits w64 z) (n : ℕ) (e : n ≡ session
   pub commits : Performs (Commit z) p withCommitted
   unfolding conditions viewPlant viewSession accepted committed
   commits k lent h =
-      let m = none-held (Commit z) lent (chosen (viewPlant p)) (viewPlant p) _ refl h in
+      let m = none-held (Commit z) lent (viewPlant p) _ refl h in
       let g : M.isSlot z (viewSessions (p .sessions)) ≡ true = not-false _ (not-met _ noSlot (m .0)) in
       let q : natOf z ≡ n = number-is (viewPlant p) (kept-parts p k) z fits n e (sym (slot-is (viewPlant p) (kept-parts p k) z fits n e) ∙ g) in
       let x : M.session (natOf z) (viewSessions (p .sessions)) .changes ≡ viewChanges (s .changes) =
       ap (λ (i : ℕ). M.session i (viewSessions (p .sessions)) .changes) q ∙ ap (λ (y : M.Session). y .changes) (sym es) in
       rw (eb, brought k, et, sym q, sym x) refl
-      ∙ left-accepted (Commit z) lent (chosen (viewPlant p)) (viewPlant p) m
+      ∙ left-accepted (Commit z) lent (viewPlant p) m
 
   pub commits-form : (sessionsForm (p .sessions) ≡ true → sessionForm s ≡ true) → (changesForm (s .changes) ≡ true → bufferForm (p .buffer) ≡ true → bufferForm b ≡ true)
       → (cacheForm (p .cache) ≡ true → cacheForm c ≡ true) → (sessionsForm (p .sessions) ≡ true → sessionsForm t ≡ true) → plantForm p ≡ true → plantForm withCommitted ≡ true

@@ -19,7 +19,7 @@ use Rattle.rules.specs.Conditions.{conditions}
 use Rattle.rules.specs.Effects.{orphaned, cut}
 use Rattle.rules.specs.Step.{accepted}
 use Rattle.rules.proofs.Laws.{not-met}
-use Rattle.promises.specs.Promise.{chosen, result, Performs}
+use Rattle.promises.specs.Promise.{result, Performs}
 use Rattle.promises.proofs.Telling.{refuses, accepts, none-held, left-accepted}
 use Rattle.arguments.specs.Numbers.{indexNumber}
 use Rattle.arguments.proofs.Numbers.{held, outside, inside, index-is, index-lt}
@@ -39,11 +39,11 @@ module _ (p : Plant) (z : ℤ) (fits : SFits w64 z) (w : ℕ) (e : w ≡ indexNu
 
   pub out-of-range : workerCount ≤ w → Answered (refused outOfRange)
   unfolding conditions _⇒_
-  out-of-range l = refuses (Cut z) lent (chosen (viewPlant p)) (viewPlant p) _ (rw (outside z fits workerCount w e l) refl)
+  out-of-range l = refuses (Cut z) lent (viewPlant p) _ (rw (outside z fits workerCount w e l) refl)
 
   pub told : w < workerCount → Answered (fine [])
   unfolding conditions _⇒_ accepted
-  told l = accepts (Cut z) lent (chosen (viewPlant p)) (viewPlant p) (rw (inside z fits workerCount w e l) refl)
+  told l = accepts (Cut z) lent (viewPlant p) (rw (inside z fits workerCount w e l) refl)
 
 -- ── the plant left ──
 module _ (p : Plant) (z : ℤ) (fits : SFits w64 z) (w : ℕ) (e : w ≡ indexNumber (held z) workerCount)
@@ -56,10 +56,10 @@ module _ (p : Plant) (z : ℤ) (fits : SFits w64 z) (w : ℕ) (e : w ≡ indexNu
   pub emptied : Performs (Cut z) p withCut
   unfolding conditions viewPlant accepted cut
   emptied kept lent h =
-      let m = none-held (Cut z) lent (chosen (viewPlant p)) (viewPlant p) _ refl h in
+      let m = none-held (Cut z) lent (viewPlant p) _ refl h in
       let g : below z workerCount ≡ true = not-false (below z workerCount) (not-met _ outOfRange (m .0)) in
       rw (ehs, index-lt z fits workerCount w e g, eh, eq, sym (index-is z fits workerCount w e g)) refl
-      ∙ left-accepted (Cut z) lent (chosen (viewPlant p)) (viewPlant p) m
+      ∙ left-accepted (Cut z) lent (viewPlant p) m
 
   pub emptied-form : (handsForm (p .hands) ≡ true → handForm hand ≡ true → handsForm hs ≡ true) → handForm hand ≡ true → (queueForm (p .queue) ≡ true → queueForm q ≡ true) → plantForm p ≡ true
       → plantForm withCut ≡ true

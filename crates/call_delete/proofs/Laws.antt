@@ -20,7 +20,7 @@ use Rattle.rules.specs.Conditions.{conditions}
 use Rattle.rules.specs.Effects.{ended, deleted}
 use Rattle.rules.specs.Step.{accepted}
 use Rattle.rules.proofs.Laws.{not-met}
-use Rattle.promises.specs.Promise.{chosen, result, Performs}
+use Rattle.promises.specs.Promise.{result, Performs}
 use Rattle.promises.proofs.Telling.{refuses, accepts, none-held, left-accepted}
 use Rattle.arguments.specs.Numbers.{indexNumber}
 use Rattle.arguments.proofs.Numbers.{held, outside, inside, index-is, index-lt}
@@ -49,7 +49,7 @@ module _ (p : Plant) (z : ℤ) (fits : SFits w64 z) (w : ℕ) (e : w ≡ indexNu
 
   pub out-of-range : workerCount ≤ w → Answered (refused outOfRange)
   unfolding conditions _⇒_
-  out-of-range l = refuses (Delete z) lent (chosen (viewPlant p)) (viewPlant p) _ (rw (outside z fits workerCount w e l) refl)
+  out-of-range l = refuses (Delete z) lent (viewPlant p) _ (rw (outside z fits workerCount w e l) refl)
 
   module _ (l : w < workerCount) (h : Hand) (eh : viewHand h ≡ viewHands (p .hands) w) (f : Bool) (ef : f ≡ replied (viewHand h)) where
     hand-is : viewHands (p .hands) (natOf z) ≡ viewHand h
@@ -57,12 +57,12 @@ module _ (p : Plant) (z : ℤ) (fits : SFits w64 z) (w : ℕ) (e : w ≡ indexNu
 
     pub no-reply : not f ≡ true → Answered (refused wrongHand)
     unfolding conditions viewPlant _⇒_
-    no-reply g = refuses (Delete z) lent (chosen (viewPlant p)) (viewPlant p) _ (rw (inside z fits workerCount w e l, hand-is, full-replied (viewHand h), sym ef, g) refl)
+    no-reply g = refuses (Delete z) lent (viewPlant p) _ (rw (inside z fits workerCount w e l, hand-is, full-replied (viewHand h), sym ef, g) refl)
 
     pub buffered-told : not f ≡ false → (n : ℕ) → n ≡ handed (viewHand h) → (b : Bool) → b ≡ isBuffered n (viewBuffer (p .buffer)) → Answered (fine (bit b ∷ []))
     unfolding conditions viewPlant _⇒_ accepted
     buffered-told g n en b eb =
-        rw (eb, en, sym hand-is) (accepts (Delete z) lent (chosen (viewPlant p)) (viewPlant p) (rw (inside z fits workerCount w e l, hand-is, full-replied (viewHand h), sym ef, g) refl))
+        rw (eb, en, sym hand-is) (accepts (Delete z) lent (viewPlant p) (rw (inside z fits workerCount w e l, hand-is, full-replied (viewHand h), sym ef, g) refl))
 
 -- ── the plant left ──
 module _ (p : Plant) (z : ℤ) (fits : SFits w64 z) (w : ℕ) (e : w ≡ indexNumber (held z) workerCount)
@@ -76,10 +76,10 @@ module _ (p : Plant) (z : ℤ) (fits : SFits w64 z) (w : ℕ) (e : w ≡ indexNu
   pub unbuffered : Performs (Delete z) p unheld
   unfolding conditions viewPlant accepted deleted
   unbuffered kept lent h =
-      let m = none-held (Delete z) lent (chosen (viewPlant p)) (viewPlant p) _ refl h in
+      let m = none-held (Delete z) lent (viewPlant p) _ refl h in
       let g : below z workerCount ≡ true = not-false (below z workerCount) (not-met _ outOfRange (m .0)) in
       rw (ebs, en, eo, ehs, index-lt z fits workerCount w e g, eh, eq, sym (index-is z fits workerCount w e g)) refl
-      ∙ left-accepted (Delete z) lent (chosen (viewPlant p)) (viewPlant p) m
+      ∙ left-accepted (Delete z) lent (viewPlant p) m
 
   pub unbuffered-form : (bufferForm (p .buffer) ≡ true → bufferForm bs ≡ true) → (handsForm (p .hands) ≡ true → handForm hand ≡ true → handsForm hs ≡ true) → handForm hand ≡ true
       → (queueForm (p .queue) ≡ true → queueForm q ≡ true) → plantForm p ≡ true

@@ -21,7 +21,7 @@ use Rattle.rules.specs.Step.{accepted}
 use Rattle.rules.proofs.Laws.{not-met, and-true, both, below-is}
 use Rattle.answers.specs.View.{viewRefusal}
 use Rattle.answers.specs.declared.Refusal.{Refusal}
-use Rattle.promises.specs.Promise.{chosen, result, Performs}
+use Rattle.promises.specs.Promise.{result, Performs}
 use Rattle.promises.proofs.Telling.{refuses, accepts, none-held, left-accepted}
 use Rattle.arguments.proofs.Numbers.{held}
 use Rattle.arguments.specs.change.View.{refusalAt}
@@ -52,7 +52,7 @@ module _ (p : Plant) (x y z v : ℤ) (wx : SFits w64 x) (wy : SFits w64 y) (wz :
 
   pub out-of-range : u .kind ≡ 0 → Answered (refused outOfRange)
   unfolding conditions _⇒_
-  out-of-range h = refuses (Load x y z v) lent (chosen (viewPlant p)) (viewPlant p) _ (rw (asked-bad x y z v wx wy wz wv u eg h) refl)
+  out-of-range h = refuses (Load x y z v) lent (viewPlant p) _ (rw (asked-bad x y z v wx wy wz wv u eg h) refl)
 
   module _ (n : u .kind ≡ 0 → ⊥) where
     good : goodPlace x y && goodChange z v ≡ true
@@ -60,12 +60,12 @@ module _ (p : Plant) (x y z v : ℤ) (wx : SFits w64 x) (wy : SFits w64 y) (wz :
 
     pub begun : firstSession < p .next → Answered (refused sessionBegun)
     unfolding conditions viewPlant _⇒_
-    begun b = refuses (Load x y z v) lent (chosen (viewPlant p)) (viewPlant p) _ (rw (good, lt-ltb firstSession (p .next) b) refl)
+    begun b = refuses (Load x y z v) lent (viewPlant p) _ (rw (good, lt-ltb firstSession (p .next) b) refl)
 
     module _ (b : p .next ≤ firstSession) where
       pub away : not (p .near) ≡ true → Answered (refused storeAway)
       unfolding conditions viewPlant _⇒_
-      away i = refuses (Load x y z v) lent (chosen (viewPlant p)) (viewPlant p) _ (rw (good, le-ltb firstSession (p .next) b, not-true (p .near) i) refl)
+      away i = refuses (Load x y z v) lent (viewPlant p) _ (rw (good, le-ltb firstSession (p .next) b, not-true (p .near) i) refl)
 
       module _ (i : not (p .near) ≡ false)
           (es : goodPlace (held x) (held y) && goodChange (held z) (held v) ≡ true → viewUpdate u ≡ updateOf (placeOf (held x) (held y)) (natOf (held z)) (held v))
@@ -77,13 +77,13 @@ module _ (p : Plant) (x y z v : ℤ) (wx : SFits w64 x) (wy : SFits w64 y) (wz :
         pub done : k ≡ 0 → Answered (fine [])
         unfolding conditions viewPlant _⇒_ accepted
         done h =
-            accepts (Load x y z v) lent (chosen (viewPlant p)) (viewPlant p)
+            accepts (Load x y z v) lent (viewPlant p)
             (rw (good, le-ltb firstSession (p .next) b, not-false (p .near) i, meeting, none-met k h) refl)
 
         pub met : (k ≡ 0 → ⊥) → (r : Refusal) → viewRefusal r ≡ refusalOf k → Answered (refused (viewRefusal r))
         unfolding conditions viewPlant _⇒_
         met h r er =
-            refuses (Load x y z v) lent (chosen (viewPlant p)) (viewPlant p) _
+            refuses (Load x y z v) lent (viewPlant p) _
             (rw (good, le-ltb firstSession (p .next) b, not-false (p .near) i, meeting, some-met k h, er) refl)
 
 -- ── the plant left ──
@@ -99,7 +99,7 @@ module _ (p : Plant) (x y z v : ℤ) (wx : SFits w64 x) (wy : SFits w64 y) (wz :
   pub made : Performs (Load x y z v) p (withStore p st)
   unfolding conditions viewPlant accepted loaded
   made kept lent h =
-      let m = none-held (Load x y z v) lent (chosen (viewPlant p)) (viewPlant p) _ refl h in
+      let m = none-held (Load x y z v) lent (viewPlant p) _ refl h in
       let g : goodPlace x y && goodChange z v ≡ true = not-false (goodPlace x y && goodChange z v) (not-met _ outOfRange (m .0)) in
       rw (stored g) refl
-      ∙ left-accepted (Load x y z v) lent (chosen (viewPlant p)) (viewPlant p) m
+      ∙ left-accepted (Load x y z v) lent (viewPlant p) m

@@ -21,7 +21,7 @@ use Rattle.rules.specs.Conditions.{conditions, goodPairs, goodCount, isZero}
 use Rattle.rules.specs.Effects.{mapped}
 use Rattle.rules.specs.Step.{accepted}
 use Rattle.rules.proofs.Laws.{byCase, not-met, and-true, or-false, below-is}
-use Rattle.promises.specs.Promise.{chosen, result, Performs}
+use Rattle.promises.specs.Promise.{result, Performs}
 use Rattle.promises.proofs.Telling.{refuses, accepts, none-held, left-accepted}
 use Rattle.arguments.specs.Numbers.{indexNumber}
 use Rattle.arguments.proofs.Numbers.{held, outside, inside, inside-is, index-is, index-lt}
@@ -93,7 +93,7 @@ module _ (p : Plant) (x y d e f g h i j o : ℤ) (wx : SFits w64 x) (wy : SFits 
 
   pub no-key : keyCount ≤ k → Answered (refused outOfRange)
   unfolding conditions _⇒_
-  no-key l = refuses (Map x y m) lent (chosen (viewPlant p)) (viewPlant p) _ (rw (outside x wx keyCount k ek l) refl)
+  no-key l = refuses (Map x y m) lent (viewPlant p) _ (rw (outside x wx keyCount k ek l) refl)
 
   module _ (l : k < keyCount) (t : Places) (et : all inRange (viewPlaces t) ≡ goodPairs (pairs (held d) (held e) (held f) (held g) (held h) (held i) (held j) (held o)))
       (b : Bool) (eb : b ≡ all inRange (viewPlaces t)) where
@@ -105,7 +105,7 @@ module _ (p : Plant) (x y d e f g h i j o : ℤ) (wx : SFits w64 x) (wy : SFits 
 
     pub no-place : not b ≡ true → Answered (refused outOfRange)
     unfolding conditions _⇒_
-    no-place n = refuses (Map x y m) lent (chosen (viewPlant p)) (viewPlant p) _ (rw (in-range, within, not-true b n) refl)
+    no-place n = refuses (Map x y m) lent (viewPlant p) _ (rw (in-range, within, not-true b n) refl)
 
     module _ (nb : not b ≡ false) where
       good : goodPairs m ≡ true
@@ -113,7 +113,7 @@ module _ (p : Plant) (x y d e f g h i j o : ℤ) (wx : SFits w64 x) (wy : SFits 
 
       pub begun : firstSession < p .next → Answered (refused sessionBegun)
       unfolding conditions viewPlant _⇒_
-      begun s = refuses (Map x y m) lent (chosen (viewPlant p)) (viewPlant p) _ (rw (in-range, good, lt-ltb firstSession (p .next) s) refl)
+      begun s = refuses (Map x y m) lent (viewPlant p) _ (rw (in-range, good, lt-ltb firstSession (p .next) s) refl)
 
       module _ (s : p .next ≤ firstSession) (old : Key) (eo : viewKey old ≡ viewKeys (p .keys) k) (u : Bool) (eu : u ≡ isEmpty (viewKey old)) where
         old-is : isEmpty (viewKeys (p .keys) (natOf x)) ≡ u
@@ -121,7 +121,7 @@ module _ (p : Plant) (x y d e f g h i j o : ℤ) (wx : SFits w64 x) (wy : SFits 
 
         pub defined : not u ≡ true → Answered (refused keyDefined)
         unfolding conditions viewPlant _⇒_
-        defined n = refuses (Map x y m) lent (chosen (viewPlant p)) (viewPlant p) _ (rw (in-range, good, le-ltb firstSession (p .next) s, old-is, not-true u n) refl)
+        defined n = refuses (Map x y m) lent (viewPlant p) _ (rw (in-range, good, le-ltb firstSession (p .next) s, old-is, not-true u n) refl)
 
         module _ (nu : not u ≡ false)
             (es : goodPairs (pairs (held d) (held e) (held f) (held g) (held h) (held i) (held j) (held o)) ≡ true → viewPlaces t ≡ placesOf (pairs (held d) (held e) (held f) (held g) (held h) (held i) (held j) (held o)))
@@ -133,11 +133,11 @@ module _ (p : Plant) (x y d e f g h i j o : ℤ) (wx : SFits w64 x) (wy : SFits 
 
           pub bad : v ≡ true → Answered (refused badPlaces)
           unfolding conditions viewPlant _⇒_
-          bad q = refuses (Map x y m) lent (chosen (viewPlant p)) (viewPlant p) _ (rw (in-range, good, le-ltb firstSession (p .next) s, old-is, not-false u nu, judged, q) refl)
+          bad q = refuses (Map x y m) lent (viewPlant p) _ (rw (in-range, good, le-ltb firstSession (p .next) s, old-is, not-false u nu, judged, q) refl)
 
           pub done : v ≡ false → Answered (fine [])
           unfolding conditions viewPlant _⇒_ accepted
-          done q = accepts (Map x y m) lent (chosen (viewPlant p)) (viewPlant p) (rw (in-range, good, le-ltb firstSession (p .next) s, old-is, not-false u nu, judged, q) refl)
+          done q = accepts (Map x y m) lent (viewPlant p) (rw (in-range, good, le-ltb firstSession (p .next) s, old-is, not-false u nu, judged, q) refl)
 
 -- ── the plant left ──
 module _ (p : Plant) (x y d e f g h i j o : ℤ) (wx : SFits w64 x) (wy : SFits w64 y)
@@ -149,12 +149,12 @@ module _ (p : Plant) (x y d e f g h i j o : ℤ) (wx : SFits w64 x) (wy : SFits 
   pub with-key : Performs (Map x y (pairs d e f g h i j o)) p (withKeys p ks)
   unfolding conditions viewPlant accepted mapped
   with-key kept lent r =
-      let m = none-held (Map x y (pairs d e f g h i j o)) lent (chosen (viewPlant p)) (viewPlant p) _ refl r in
+      let m = none-held (Map x y (pairs d e f g h i j o)) lent (viewPlant p) _ refl r in
       let c = and-true (below x keyCount) (goodPairs (pairs d e f g h i j o)) (not-false (below x keyCount && goodPairs (pairs d e f g h i j o)) (not-met _ outOfRange (m .0))) in
       let v : viewPlaces t ≡ placesOf (pairs d e f g h i j o) = shown d e f g h i j o wd we wf wg wh wi wj wo t es (c .1) in
       let q : isBad y (viewPlaces t) ≡ false = ap (isBad y) v ∙ not-met (isBad y (placesOf (pairs d e f g h i j o))) badPlaces (m .1 .1 .1 .0) in
       rw (eks, index-lt x wx keyCount k ek (c .0), sym (index-is x wx keyCount k ek (c .0)), ew, key-is y wy n en t q, v) refl
-      ∙ left-accepted (Map x y (pairs d e f g h i j o)) lent (chosen (viewPlant p)) (viewPlant p) m
+      ∙ left-accepted (Map x y (pairs d e f g h i j o)) lent (viewPlant p) m
 
 pub with-key-form : (p : Plant) (new : Key) (ks : Keys) → (keysForm (p .keys) ≡ true → keyForm new ≡ true → keysForm ks ≡ true) → keyForm new ≡ true → plantForm p ≡ true → plantForm (withKeys p ks) ≡ true
 with-key-form p new ks fk fn = form-with-keys p ks (λ x. fk x fn)

@@ -14,7 +14,7 @@ use Rattle.rules.specs.Values as S
 use Rattle.rules.specs.Refusals.{Refusal, outOfRange, wasDoomed, fewWords, storeAway, first}
 use Rattle.rules.specs.Tables as M
 use Rattle.rules.specs.Reading.{seen}
-use Rattle.rules.specs.Calls.{Call, Read, Pick, fine, markNumber}
+use Rattle.rules.specs.Calls.{Call, Read, fine, markNumber}
 use Rattle.rules.specs.Calls as C
 use Rattle.rules.specs.Conditions.{conditions}
 use Rattle.rules.specs.Effects.{mark, withShared, onlyAt, cacheBy, afterRead}
@@ -45,7 +45,7 @@ use Rattle.plant.proofs.Formed.{form-with-cache, form-with-sessions}
 use Rattle.answers.specs.View.{viewAnswer, viewMark, answerBy, isRefused}
 use Rattle.answers.specs.declared.Answer.{Answer}
 use Rattle.answers.specs.declared.Mark.{Mark}
-use Rattle.promises.specs.Promise.{chosen, result, Answers, Performs}
+use Rattle.promises.specs.Promise.{result, Answers, Performs}
 use Rattle.promises.proofs.Telling.{none-held, left-accepted}
 use Rattle.call_read_shown.specs.values.Shown.{shownIn}
 use Rattle.sight.specs.Sight.{sight, sightAway, atHand}
@@ -94,9 +94,9 @@ module _ (p : Plant) (n k : ℕ) where
       go C.ownChange = rw h refl
 
 -- ── what a refusal, or none, says of the step ──
-told-refused : (o : Option Refusal) (c : Call) (lent : List ℤ) (pick : Pick) (p : M.Plant) → isRefused (answerBy o []) ≡ true → (answerBy o [] ≡ settle o c lent pick p .answer) × (lent ≡ settle o c lent pick p .words)
-told-refused none c lent pick p h = absurd (true≢false (sym h))
-told-refused (some r) c lent pick p h = (refl, refl)
+told-refused : (o : Option Refusal) (c : Call) (lent : List ℤ) (p : M.Plant) → isRefused (answerBy o []) ≡ true → (answerBy o [] ≡ settle o c lent p .answer) × (lent ≡ settle o c lent p .words)
+told-refused none c lent p h = absurd (true≢false (sym h))
+told-refused (some r) c lent p h = (refl, refl)
 
 told-found : (o : Option Refusal) (ns : List ℕ) (fs : List S.Field) (lent : List ℤ) → isRefused (answerBy o []) ≡ true → (answerBy o [] ≡ answerBy o ns) × (lent ≡ wordsBy o fs lent)
 told-found none ns fs lent h = absurd (true≢false (sym h))
@@ -124,7 +124,7 @@ module _ (p : Plant) (h : keptPlant p ≡ true) (n k : ℕ) (lent : List ℤ) (m
   unfolding conditions afterRead
   cache-are = cache-is (viewPlant p) (kept-parts p h) n k in-range (not-met _ storeAway (m .1 .1 .1 .1 .1 .1 .0))
 
-  words-are : (fs : List S.Field) → fs ≡ shownFields n k (viewPlant p) → shownIn fs lent ≡ accepted (Read (pos n) (pos k)) lent (chosen (viewPlant p)) (viewPlant p) .words
+  words-are : (fs : List S.Field) → fs ≡ shownFields n k (viewPlant p) → shownIn fs lent ≡ accepted (Read (pos n) (pos k)) lent (viewPlant p) .words
   unfolding conditions accepted shownIn
   words-are fs e =
       let qs : List S.Place = viewPlant p .keys k in
@@ -172,7 +172,7 @@ module _ (p : Plant) (z : ℤ) (fz : SFits w64 z) (n : ℕ) (en : n ≡ sessionN
     turned : (viewAnswer a ≡ result (Read (pos n) (pos k)) lent p .answer) × (lent ≡ result (Read (pos n) (pos k)) lent p .words)
     unfolding step
     turned =
-        let s = told-refused (first (conditions (Read (pos n) (pos k)) lent (viewPlant p))) (Read (pos n) (pos k)) lent (chosen (viewPlant p)) (viewPlant p) (is-told ∙ t) in
+        let s = told-refused (first (conditions (Read (pos n) (pos k)) lent (viewPlant p))) (Read (pos n) (pos k)) lent (viewPlant p) (is-told ∙ t) in
         (as-told ∙ s .0, s .1)
 
     turned-away : Answers (Read z y) lent p a
@@ -194,8 +194,8 @@ module _ (p : Plant) (z : ℤ) (fz : SFits w64 z) (n : ℕ) (en : n ≡ sessionN
     none-meets : NoneMet (conditions (Read (pos n) (pos k)) lent (viewPlant p))
     none-meets = none-met (conditions (Read (pos n) (pos k)) lent (viewPlant p)) (told-none (first (conditions (Read (pos n) (pos k)) lent (viewPlant p))) (is-told ∙ t))
 
-    reads : keptPlant p ≡ true → accepted (Read (pos n) (pos k)) lent (chosen (viewPlant p)) (viewPlant p) ≡ result (Read z y) lent p
-    reads h = sym (named p z fz n en y fy k ek h lent ∙ step-fine (Read (pos n) (pos k)) lent (chosen (viewPlant p)) (viewPlant p) none-meets)
+    reads : keptPlant p ≡ true → accepted (Read (pos n) (pos k)) lent (viewPlant p) ≡ result (Read z y) lent p
+    reads h = sym (named p z fz n en y fy k ek h lent ∙ step-fine (Read (pos n) (pos k)) lent (viewPlant p) none-meets)
 
     marked : (m : Mark) → viewMark m ≡ mark n k (looked p n k) → keptPlant p ≡ true → fine (markNumber (viewMark m) ∷ []) ≡ result (Read z y) lent p .answer
     unfolding accepted
@@ -238,9 +238,9 @@ module _ (p : Plant) (z : ℤ) (fz : SFits w64 z) (y : ℤ) (fy : SFits w64 y)
   unfolding viewPlant accepted afterRead
   leaves shows h lent i =
       let e = named p z fz n en y fy k ek h lent in
-      let none = none-held (Read (pos n) (pos k)) lent (chosen (viewPlant p)) (viewPlant p) _ (ap (λ (x : C.Result). x .answer) e) i in
+      let none = none-held (Read (pos n) (pos k)) lent (viewPlant p) _ (ap (λ (x : C.Result). x .answer) e) i in
       rw (ec ∙ caches-so p z fz n en y fy k ek m shows ∙ cache-are p h n k lent none, shared-is h (in-range p h n k lent none) (is-live p h n k lent none)) refl
-      ∙ left-accepted (Read (pos n) (pos k)) lent (chosen (viewPlant p)) (viewPlant p) none
+      ∙ left-accepted (Read (pos n) (pos k)) lent (viewPlant p) none
       ∙ ap (λ (x : C.Result). x .plant) (sym e)
 
   pub leaves-form : (cachedForm (m .fields) ≡ true → cacheForm (p .cache) ≡ true → cacheForm c ≡ true) → (sessionsForm (p .sessions) ≡ true → sessionsForm s ≡ true) → cachedForm (m .fields) ≡ true → plantForm p ≡ true → plantForm withRead ≡ true

@@ -12,7 +12,7 @@ use Rattle.rules.specs.Limits.{keyCount}
 use Rattle.rules.specs.Values.{below, natOf}
 use Rattle.rules.specs.Refusals.{Refusal, first, _⇒_}
 use Rattle.rules.specs.Tables as M
-use Rattle.rules.specs.Calls.{Read, Pick}
+use Rattle.rules.specs.Calls.{Read}
 use Rattle.rules.specs.Conditions.{conditions}
 use Rattle.rules.specs.Step.{accepted, settle, step}
 use Rattle.rules.proofs.Laws.{byCase}
@@ -21,25 +21,25 @@ use Rattle.arguments.proofs.Numbers.{held, index-test, index-is}
 use Rattle.plant.specs.View.{viewPlant, keptPlant}
 use Rattle.plant.specs.declared.Plant.{Plant}
 use Rattle.plant.proofs.PlantLaws.{kept-parts}
-use Rattle.promises.specs.Promise.{chosen, result}
+use Rattle.promises.specs.Promise.{result}
 use Rattle.promises.proofs.Numbers.{slot-is, number-is}
 
-module _ (p : M.Plant) (lent : List ℤ) (pick : Pick) (z y : ℤ) (n k : ℕ) (ly : ltb k keyCount ≡ below y keyCount) (ky : below y keyCount ≡ true → natOf y ≡ k)
+module _ (p : M.Plant) (lent : List ℤ) (z y : ℤ) (n k : ℕ) (ly : ltb k keyCount ≡ below y keyCount) (ky : below y keyCount ≡ true → natOf y ≡ k)
     (sz : M.isSlot z (p .slots) ≡ M.hasSlot n (p .slots)) (nz : M.hasSlot n (p .slots) ≡ true → natOf z ≡ n) where
-  both-found : below y keyCount ≡ true → M.hasSlot n (p .slots) ≡ true → step (Read z y) lent pick p ≡ step (Read (pos n) (pos k)) lent pick p
+  both-found : below y keyCount ≡ true → M.hasSlot n (p .slots) ≡ true → step (Read z y) lent p ≡ step (Read (pos n) (pos k)) lent p
   unfolding step conditions accepted _⇒_
   both-found b h =
       let i : ltb (natOf y) keyCount ≡ true = ap (λ (x : ℕ). ltb x keyCount) (ky b) ∙ ly ∙ b in
       let s : M.hasSlot (natOf z) (p .slots) ≡ true = ap (λ (x : ℕ). M.hasSlot x (p .slots)) (nz h) ∙ h in
       let e : conditions (Read z y) lent p ≡ conditions (Read (pos (natOf z)) (pos (natOf y))) lent p = rw (b, i, sz ∙ h, s) refl in
-      ap (λ l. settle (first l) (Read z y) lent pick p) e ∙ go (first (conditions (Read (pos (natOf z)) (pos (natOf y))) lent p))
-      ∙ ap₂ (λ x w. step (Read (pos x) (pos w)) lent pick p) (nz h) (ky b)
+      ap (λ l. settle (first l) (Read z y) lent p) e ∙ go (first (conditions (Read (pos (natOf z)) (pos (natOf y))) lent p))
+      ∙ ap₂ (λ x w. step (Read (pos x) (pos w)) lent p) (nz h) (ky b)
     where
-      go : (o : Option Refusal) → settle o (Read z y) lent pick p ≡ settle o (Read (pos (natOf z)) (pos (natOf y))) lent pick p
+      go : (o : Option Refusal) → settle o (Read z y) lent p ≡ settle o (Read (pos (natOf z)) (pos (natOf y))) lent p
       go none = refl
       go (some r) = refl
 
-  same-step : step (Read z y) lent pick p ≡ step (Read (pos n) (pos k)) lent pick p
+  same-step : step (Read z y) lent p ≡ step (Read (pos n) (pos k)) lent p
   unfolding step conditions _⇒_
   same-step =
       byCase (below y keyCount)
@@ -51,5 +51,5 @@ module _ (p : Plant) (z : ℤ) (fz : SFits w64 z) (n : ℕ) (en : n ≡ sessionN
   pub named : keptPlant p ≡ true → (lent : List ℤ) → result (Read z y) lent p ≡ result (Read (pos n) (pos k)) lent p
   named h lent =
       let x = kept-parts p h in
-      same-step (viewPlant p) lent (chosen (viewPlant p)) z y n k (index-test y fy keyCount k ek) (index-is y fy keyCount k ek) (slot-is (viewPlant p) x z fz n en)
+      same-step (viewPlant p) lent z y n k (index-test y fy keyCount k ek) (index-is y fy keyCount k ek) (slot-is (viewPlant p) x z fz n en)
       (number-is (viewPlant p) x z fz n en)

@@ -18,7 +18,7 @@ use Rattle.sessions.specs.declared.session.Session.{Session}
 use Rattle.sessions.specs.View.{viewSessions}
 use Rattle.plant.specs.View.{viewPlant}
 use Rattle.plant.specs.declared.Plant.{Plant}
-use Rattle.promises.specs.Promise.{chosen, result, Performs}
+use Rattle.promises.specs.Promise.{result, Performs}
 use Rattle.promises.proofs.Telling.{accepts, none-held, left-accepted}
 use Rattle.caller.proofs.Standing.{Asks}
 
@@ -34,9 +34,9 @@ pub reports : (p : Plant) (z : ℤ) (lent : List ℤ) (s : Session) (x y n : ℕ
     → M.session (natOf z) (viewSessions (p .sessions)) ≡ viewSession s → first (conditions (Report z) lent (viewPlant p)) ≡ none
     → fine (x ∷ y ∷ n ∷ []) ≡ result (Report z) lent p .answer
 unfolding viewPlant viewSession accepted told
-reports p z lent s x y n ex ey en es f = rw (ex, ey, en) refl ∙ ap told (sym es) ∙ accepts (Report z) lent (chosen (viewPlant p)) (viewPlant p) f
+reports p z lent s x y n ex ey en es f = rw (ex, ey, en) refl ∙ ap told (sym es) ∙ accepts (Report z) lent (viewPlant p) f
 
 -- a report that is accepted leaves the plant as it was
 pub performs : (p : Plant) (z : ℤ) → Performs (Report z) p p
 unfolding accepted
-performs p z k lent h = left-accepted (Report z) lent (chosen (viewPlant p)) (viewPlant p) (none-held (Report z) lent (chosen (viewPlant p)) (viewPlant p) _ refl h)
+performs p z k lent h = left-accepted (Report z) lent (viewPlant p) (none-held (Report z) lent (viewPlant p) _ refl h)

@@ -17,7 +17,7 @@ use Rattle.rules.specs.Calls.{Store, refused, fine}
 use Rattle.rules.specs.Conditions.{conditions, goodStoreMark}
 use Rattle.rules.specs.Step.{accepted}
 use Rattle.rules.proofs.Laws.{byCase, not-met}
-use Rattle.promises.specs.Promise.{chosen, result, Performs}
+use Rattle.promises.specs.Promise.{result, Performs}
 use Rattle.promises.proofs.Telling.{refuses, accepts, none-held, left-accepted}
 use Rattle.arguments.specs.Numbers.{indexNumber}
 use Rattle.arguments.proofs.Numbers.{held, outside, inside, index-is}
@@ -46,18 +46,18 @@ module _ (p : Plant) (z : ℤ) (fits : SFits w64 z) (n : ℕ) (e : n ≡ indexNu
 
   pub out-of-range : 1 < n → Answered (refused outOfRange)
   unfolding conditions _⇒_
-  out-of-range l = refuses (Store z) lent (chosen (viewPlant p)) (viewPlant p) _ (rw (mark-test z, outside z fits 2 n e (omega arith)) refl)
+  out-of-range l = refuses (Store z) lent (viewPlant p) _ (rw (mark-test z, outside z fits 2 n e (omega arith)) refl)
 
   pub done : n ≤ 1 → Answered (fine [])
   unfolding conditions _⇒_ accepted
-  done l = accepts (Store z) lent (chosen (viewPlant p)) (viewPlant p) (rw (mark-test z, inside z fits 2 n e (omega arith)) refl)
+  done l = accepts (Store z) lent (viewPlant p) (rw (mark-test z, inside z fits 2 n e (omega arith)) refl)
 
 -- ── the plant left ──
 module _ (p : Plant) (z : ℤ) (fits : SFits w64 z) (n : ℕ) (e : n ≡ indexNumber (held z) 2) where
   pub marked : Performs (Store z) p (withNear p (eqb n 1))
   unfolding conditions viewPlant accepted
   marked kept lent h =
-      let m = none-held (Store z) lent (chosen (viewPlant p)) (viewPlant p) _ refl h in
+      let m = none-held (Store z) lent (viewPlant p) _ refl h in
       let g : below z 2 ≡ true = sym (mark-test z) ∙ not-false (goodStoreMark z) (not-met _ outOfRange (m .0)) in
       rw (near-is n, sym (index-is z fits 2 n e g)) refl
-      ∙ left-accepted (Store z) lent (chosen (viewPlant p)) (viewPlant p) m
+      ∙ left-accepted (Store z) lent (viewPlant p) m

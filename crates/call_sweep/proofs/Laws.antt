@@ -1,4 +1,4 @@
--- What sweep picks, answers and leaves, one law for each way out.
+-- What sweep removes, answers and leaves, one law for each way out.
 use mathlib.Core.Path.{_≡_, refl, _∙_}
 use mathlib.Core.Bool.{Bool, true, false, cond, not}
 use mathlib.Core.List.{List, [], _∷_}
@@ -20,7 +20,7 @@ use Rattle.rules.proofs.Laws.{byCase}
 use Rattle.lists.specs.Find.{fold}
 use Rattle.lists.specs.Table.{counted}
 use Rattle.lists.proofs.Views.{keepRoom, first-kept}
-use Rattle.promises.specs.Promise.{chosen, result, Performs}
+use Rattle.promises.specs.Promise.{result, Performs}
 use Rattle.promises.proofs.Telling.{refuses, accepts, none-held, left-accepted}
 use Rattle.rows.specs.View.{viewRows, rowsForm}
 use Rattle.rows.specs.declared.Rows.{Rows}
@@ -30,36 +30,35 @@ use Rattle.plant.specs.View.{viewPlant, keptPlant, plantForm}
 use Rattle.plant.specs.With.{withRows}
 use Rattle.plant.specs.declared.Plant.{Plant}
 use Rattle.plant.proofs.Formed.{form-with-rows}
-use Rattle.call_sweep.specs.MayGo.{mayGo}
 
--- ── the picks ──
+-- ── what is removed ──
 module _ (l : List M.Batch) (hands : ℕ → M.Hand) (n : ℕ) where
-  pub stays-buffered : (t : Bool) → t ≡ M.isBuffered n l → t ≡ true → false ≡ mayGo l hands n
+  pub stays-buffered : (t : Bool) → t ≡ M.isBuffered n l → t ≡ true → false ≡ M.unneeded l hands n
   stays-buffered t e h = rw (← e, h) refl
 
-  pub goes-unheld : (t : Bool) → t ≡ M.isBuffered n l → t ≡ false → (u : Bool) → u ≡ M.anyHand hands n → not u ≡ mayGo l hands n
+  pub goes-unheld : (t : Bool) → t ≡ M.isBuffered n l → t ≡ false → (u : Bool) → u ≡ M.anyHand hands n → not u ≡ M.unneeded l hands n
   goes-unheld t e h u g = rw (← e, h, ← g) refl
 
   module _ (x : List ℕ) where
-    abbrev Picked : List ℕ → Type 0
-    Picked r = r ≡ cond (mayGo l hands n) (pushed sweepLimit x n) x
+    abbrev Removes : List ℕ → Type 0
+    Removes r = r ≡ cond (M.unneeded l hands n) (pushed sweepLimit x n) x
 
-    pub all-picked : (k : ℕ) → k ≡ length x → sweepLimit ≤ k → Picked x
+    pub all-removed : (k : ℕ) → k ≡ length x → sweepLimit ≤ k → Removes x
     unfolding pushed
-    all-picked k ek h = byCase (mayGo l hands n) (λ e. rw (e, le-ltb (length x) sweepLimit (omega arith))) (λ e. rw e)
+    all-removed k ek h = byCase (M.unneeded l hands n) (λ e. rw (e, le-ltb (length x) sweepLimit (omega arith))) (λ e. rw e)
 
-    module _ (t : Bool) (e : t ≡ mayGo l hands n) where
+    module _ (t : Bool) (e : t ≡ M.unneeded l hands n) where
       -- the sweep's room is less than a table's
-      pub one-picked : (k : ℕ) → k ≡ length x → k < sweepLimit → t ≡ true → (r : List ℕ) → r ≡ pushed rowLimit x n → Picked r
+      pub one-removed : (k : ℕ) → k ≡ length x → k < sweepLimit → t ≡ true → (r : List ℕ) → r ≡ pushed rowLimit x n → Removes r
       unfolding pushed
-      one-picked k ek h u r g = g ∙ rw (lt-ltb (length x) rowLimit (omega arith), ← e, u, lt-ltb (length x) sweepLimit (omega arith))
+      one-removed k ek h u r g = g ∙ rw (lt-ltb (length x) rowLimit (omega arith), ← e, u, lt-ltb (length x) sweepLimit (omega arith))
 
-      pub one-left : t ≡ false → Picked x
+      pub one-left : t ≡ false → Removes x
       one-left u = rw (← e, u) refl
 
-pub pick-start : (rows : Rows) (p : ℕ → Bool) (picks : Rows) → viewRows picks ≡ [] → take sweepLimit (keep p (viewRows rows)) ≡ fold (keepRoom sweepLimit p) (viewRows picks) (counted (λ n. n) (rows .count) (rows .numbers))
+pub removed-start : (rows : Rows) (p : ℕ → Bool) (gone : Rows) → viewRows gone ≡ [] → take sweepLimit (keep p (viewRows rows)) ≡ fold (keepRoom sweepLimit p) (viewRows gone) (counted (λ n. n) (rows .count) (rows .numbers))
 unfolding viewRows
-pick-start rows p picks e = first-kept sweepLimit p (counted (λ n. n) (rows .count) (rows .numbers)) ∙ rw e refl
+removed-start rows p gone e = first-kept sweepLimit p (counted (λ n. n) (rows .count) (rows .numbers)) ∙ rw e refl
 
 -- ── what is answered ──
 module _ (p : Plant) (lent : List ℤ) (kept : keptPlant p ≡ true) where
@@ -68,21 +67,21 @@ module _ (p : Plant) (lent : List ℤ) (kept : keptPlant p ≡ true) where
 
   pub away : not (p .near) ≡ true → Answered (refused storeAway)
   unfolding conditions viewPlant _⇒_
-  away h = refuses Sweep lent (chosen (viewPlant p)) (viewPlant p) _ (rw h refl)
+  away h = refuses Sweep lent (viewPlant p) _ (rw h refl)
 
-  pub picks-told : not (p .near) ≡ false → (l : Rows) → viewRows l ≡ take sweepLimit (keep (mayGo (viewBuffer (p .buffer)) (viewHands (p .hands))) (viewRows (p .rows)))
+  pub removed-told : not (p .near) ≡ false → (l : Rows) → viewRows l ≡ take sweepLimit (keep (M.unneeded (viewBuffer (p .buffer)) (viewHands (p .hands))) (viewRows (p .rows)))
       → (n : ℕ) → n ≡ length (viewRows l) → Answered (fine (n ∷ []))
-  unfolding conditions viewPlant _⇒_ accepted chosen
-  picks-told h l el n en = rw (en, el) (accepts Sweep lent (chosen (viewPlant p)) (viewPlant p) (rw h refl))
+  unfolding conditions viewPlant _⇒_ accepted
+  removed-told h l el n en = rw (en, el) (accepts Sweep lent (viewPlant p) (rw h refl))
 
 -- ── the plant left ──
-module _ (p : Plant) (l : Rows) (el : viewRows l ≡ take sweepLimit (keep (mayGo (viewBuffer (p .buffer)) (viewHands (p .hands))) (viewRows (p .rows))))
+module _ (p : Plant) (l : Rows) (el : viewRows l ≡ take sweepLimit (keep (M.unneeded (viewBuffer (p .buffer)) (viewHands (p .hands))) (viewRows (p .rows))))
     (r : Rows) (er : viewRows r ≡ keep (λ n. not (has n (viewRows l))) (viewRows (p .rows))) where
-  pub removed : Performs Sweep p (withRows p r)
-  unfolding conditions viewPlant accepted swept chosen
-  removed kept lent h =
-      let m = none-held Sweep lent (chosen (viewPlant p)) (viewPlant p) _ refl h in
-      rw (er, el) refl ∙ left-accepted Sweep lent (chosen (viewPlant p)) (viewPlant p) m
+  pub rows-left : Performs Sweep p (withRows p r)
+  unfolding conditions viewPlant accepted swept
+  rows-left kept lent h =
+      let m = none-held Sweep lent (viewPlant p) _ refl h in
+      rw (er, el) refl ∙ left-accepted Sweep lent (viewPlant p) m
 
-  pub removed-form : rowsForm r ≡ true → plantForm p ≡ true → plantForm (withRows p r) ≡ true
-  removed-form fr = form-with-rows p r (λ x. fr)
+  pub left-form : rowsForm r ≡ true → plantForm p ≡ true → plantForm (withRows p r) ≡ true
+  left-form fr = form-with-rows p r (λ x. fr)

@@ -1,4 +1,4 @@
-// Sweep: the first rows that may go, up to a limit, are removed from the store.
+// Sweep: of the rows that may go the first sixteen are removed from the store.
 ghost use mathlib.Core.Path.{_≡_};
 ghost use mathlib.Core.Bool.{true, cond};
 ghost use mathlib.Core.List.{List};
@@ -6,6 +6,7 @@ ghost use lib.IntN.{ℤ};
 ghost use lib.ListN.{take};
 ghost use Rattle.rules.specs.Limits.{sweepLimit};
 ghost use Rattle.rules.specs.Lists.{keep, pushed};
+ghost use Rattle.rules.specs.Tables.{unneeded};
 ghost use Rattle.rules.specs.Calls.{Sweep};
 ghost use Rattle.rows.specs.View.{viewRows};
 ghost use Rattle.plant.specs.View.{plantForm};
@@ -14,7 +15,6 @@ ghost use Rattle.answers.specs.Own.{isAnswerOf};
 ghost use Rattle.promises.specs.Promise.{Answers, Performs};
 ghost use Rattle.buffer.specs.View.{viewBuffer};
 ghost use Rattle.workers.specs.View.{viewHands};
-ghost use Rattle.call_sweep.specs.MayGo.{mayGo};
 use answers::Answer;
 use answers::Refusal;
 use buffer::Buffer;
@@ -27,7 +27,7 @@ const SWEEP_LIMIT: u8 = 16;
 
 // The session is neither buffered nor in a hand.
 fn may_go(buffer: Buffer, hands: Hands, n: u32) -> bool
-    ensures { λ r. ⌜ r ≡ mayGo (viewBuffer buffer) (viewHands hands) n ⌝ }
+    ensures { λ r. ⌜ r ≡ unneeded (viewBuffer buffer) (viewHands hands) n ⌝ }
 {
     if buffer.has(n) {
         return false;
@@ -35,35 +35,35 @@ fn may_go(buffer: Buffer, hands: Hands, n: u32) -> bool
     !hands.any_holds(n)
 }
 
-// One more, if it may go and the sweep has not picked all that it removes.
-fn pick_one(picks: Rows, buffer: Buffer, hands: Hands, n: u32) -> Rows
-    ensures { λ r. ⌜ viewRows r ≡ cond (mayGo (viewBuffer buffer) (viewHands hands) n) (pushed sweepLimit (viewRows picks) n) (viewRows picks) ⌝ }
+// One more, if it may go and fewer than sixteen go already.
+fn one_more(gone: Rows, buffer: Buffer, hands: Hands, n: u32) -> Rows
+    ensures { λ r. ⌜ viewRows r ≡ cond (unneeded (viewBuffer buffer) (viewHands hands) n) (pushed sweepLimit (viewRows gone) n) (viewRows gone) ⌝ }
 {
-    if SWEEP_LIMIT <= picks.len() {
-        return picks;
+    if SWEEP_LIMIT <= gone.len() {
+        return gone;
     }
     if may_go(buffer, hands, n) {
-        return picks.push(n);
+        return gone.push(n);
     }
-    picks
+    gone
 }
 
-// The first rows that may go.
-fn pick(rows: Rows, buffer: Buffer, hands: Hands) -> Rows
-    ensures { λ r. ⌜ viewRows r ≡ take sweepLimit (keep (mayGo (viewBuffer buffer) (viewHands hands)) (viewRows rows)) ⌝ }
+// The first rows that may go, in the order in which they were applied.
+fn removed(rows: Rows, buffer: Buffer, hands: Hands) -> Rows
+    ensures { λ r. ⌜ viewRows r ≡ take sweepLimit (keep (unneeded (viewBuffer buffer) (viewHands hands)) (viewRows rows)) ⌝ }
 {
     let count = rows.count as usize;
-    let mut picks = Rows::empty();
+    let mut gone = Rows::empty();
     let mut i: usize = 0;
     while i < Rows::LIMIT {
         if count <= i {
-            return picks;
+            return gone;
         }
         let n = rows.numbers[i];
-        picks = pick_one(picks, buffer, hands, n);
+        gone = one_more(gone, buffer, hands, n);
         i += 1;
     }
-    picks
+    gone
 }
 
 pub fn answer(p: Plant) -> Answer
@@ -73,8 +73,8 @@ pub fn answer(p: Plant) -> Answer
     if !p.near {
         return Answer::Refused(Refusal::StoreAway);
     }
-    let picks = pick(p.rows, p.buffer, p.hands);
-    Answer::Swept(picks.len())
+    let gone = removed(p.rows, p.buffer, p.hands);
+    Answer::Swept(gone.len())
 }
 
 pub fn after(p: Plant) -> Rows
@@ -82,6 +82,6 @@ pub fn after(p: Plant) -> Rows
     ensures form { λ r. ⌜ (plantForm p ≡ true → plantForm (withRows p r) ≡ true) ⌝ }
 {
     let rows = p.rows;
-    let picks = pick(rows, p.buffer, p.hands);
-    rows.without(picks)
+    let gone = removed(rows, p.buffer, p.hands);
+    rows.without(gone)
 }

@@ -20,7 +20,7 @@ use Rattle.rules.specs.Calls as C
 use Rattle.rules.specs.Effects.{taken}
 use Rattle.rules.specs.Step.{accepted}
 use Rattle.rules.proofs.Laws.{not-met}
-use Rattle.promises.specs.Promise.{chosen, result, Performs}
+use Rattle.promises.specs.Promise.{result, Performs}
 use Rattle.promises.proofs.Telling.{refuses, accepts, none-held, left-accepted}
 use Rattle.arguments.specs.Numbers.{indexNumber}
 use Rattle.arguments.proofs.Numbers.{held, outside, inside, index-is, index-lt}
@@ -42,7 +42,7 @@ module _ (p : Plant) (z : ℤ) (fits : SFits w64 z) (w : ℕ) (e : w ≡ indexNu
 
   pub out-of-range : workerCount ≤ w → Answered (refused outOfRange)
   unfolding conditions _⇒_
-  out-of-range l = refuses (Take z) lent (chosen (viewPlant p)) (viewPlant p) _ (rw (outside z fits workerCount w e l) refl)
+  out-of-range l = refuses (Take z) lent (viewPlant p) _ (rw (outside z fits workerCount w e l) refl)
 
   module _ (l : w < workerCount) (h : Hand) (eh : viewHand h ≡ viewHands (p .hands) w) (f : Bool) (ef : f ≡ full (viewHand h)) where
     in-range : below z workerCount ≡ true
@@ -53,21 +53,21 @@ module _ (p : Plant) (z : ℤ) (fits : SFits w64 z) (w : ℕ) (e : w ≡ indexNu
 
     pub hand-full : f ≡ true → Answered (refused wrongHand)
     unfolding conditions viewPlant _⇒_
-    hand-full g = refuses (Take z) lent (chosen (viewPlant p)) (viewPlant p) _ (rw (in-range, hand-is, g) refl)
+    hand-full g = refuses (Take z) lent (viewPlant p) _ (rw (in-range, hand-is, g) refl)
 
     module _ (g : f ≡ false) (q : Bool) (eq : q ≡ isLeased (viewQueue (p .queue))) where
       pub queue-leased : q ≡ true → Answered (refused queueLeased)
       unfolding conditions viewPlant _⇒_
-      queue-leased k = refuses (Take z) lent (chosen (viewPlant p)) (viewPlant p) _ (rw (in-range, hand-is, g, sym eq, k) refl)
+      queue-leased k = refuses (Take z) lent (viewPlant p) _ (rw (in-range, hand-is, g, sym eq, k) refl)
 
       module _ (k : q ≡ false) (b : Bool) (eb : b ≡ isEmpty (viewBuffer (p .buffer))) where
         pub buffer-empty : b ≡ true → Answered (refused nothingBuffered)
         unfolding conditions viewPlant _⇒_
-        buffer-empty i = refuses (Take z) lent (chosen (viewPlant p)) (viewPlant p) _ (rw (in-range, hand-is, g, sym eq, k, sym eb, i) refl)
+        buffer-empty i = refuses (Take z) lent (viewPlant p) _ (rw (in-range, hand-is, g, sym eq, k, sym eb, i) refl)
 
         pub oldest-told : b ≡ false → (n : ℕ) → n ≡ oldest (viewBuffer (p .buffer)) → Answered (fine (n ∷ []))
         unfolding conditions viewPlant _⇒_ accepted
-        oldest-told i n en = ap (λ (m : ℕ). fine (m ∷ [])) en ∙ accepts (Take z) lent (chosen (viewPlant p)) (viewPlant p) (rw (in-range, hand-is, g, sym eq, k, sym eb, i) refl)
+        oldest-told i n en = ap (λ (m : ℕ). fine (m ∷ [])) en ∙ accepts (Take z) lent (viewPlant p) (rw (in-range, hand-is, g, sym eq, k, sym eb, i) refl)
 
 -- ── the plant left ──
 module _ (p : Plant) (z : ℤ) (fits : SFits w64 z) (w : ℕ) (e : w ≡ indexNumber (held z) workerCount)
@@ -80,10 +80,10 @@ module _ (p : Plant) (z : ℤ) (fits : SFits w64 z) (w : ℕ) (e : w ≡ indexNu
   pub in-hand : Performs (Take z) p withTaken
   unfolding conditions viewPlant accepted taken
   in-hand kept lent h =
-      let m = none-held (Take z) lent (chosen (viewPlant p)) (viewPlant p) _ refl h in
+      let m = none-held (Take z) lent (viewPlant p) _ refl h in
       let g : below z workerCount ≡ true = not-false (below z workerCount) (not-met _ outOfRange (m .0)) in
       rw (ehs, index-lt z fits workerCount w e g, eh, en, eq, sym (index-is z fits workerCount w e g)) refl
-      ∙ left-accepted (Take z) lent (chosen (viewPlant p)) (viewPlant p) m
+      ∙ left-accepted (Take z) lent (viewPlant p) m
 
   pub in-hand-form : (handsForm (p .hands) ≡ true → handForm hand ≡ true → handsForm hs ≡ true) → handForm hand ≡ true → queueForm q ≡ true → plantForm p ≡ true
       → plantForm withTaken ≡ true

@@ -28,7 +28,7 @@ use Rattle.answers.specs.View.{viewAnswer, answerBy, isRefused}
 use Rattle.answers.specs.declared.Answer.{Answer}
 use Rattle.answers.specs.declared.Answer.the-variants as answer
 use Rattle.answers.specs.declared.Refusal.the-variants as refusal
-use Rattle.promises.specs.Promise.{chosen, result}
+use Rattle.promises.specs.Promise.{result}
 use Rattle.promises.proofs.Telling.{refuses-by}
 use Rattle.promises.proofs.Numbers.{slot-is, number-is}
 use Rattle.caller.specs.Standing.{standing, Judges}
@@ -120,7 +120,7 @@ module _ {c : ℤ → Call} {later : ℤ → M.Plant → List (Option Refusal)} 
   pub turned : r ≡ true → viewAnswer (who .refusal) ≡ result (c z) lent p .answer
   turned h =
       let q = turned-first (p .sessions) n who j r er h (later z (viewPlant p)) [] in
-      q ∙ refuses-by (c z) lent (chosen (viewPlant p)) (viewPlant p) [] (first (standing n (viewSessions (p .sessions)) ++ later z (viewPlant p))) (ap isRefused (sym q) ∙ sym er ∙ h) asked
+      q ∙ refuses-by (c z) lent (viewPlant p) [] (first (standing n (viewSessions (p .sessions)) ++ later z (viewPlant p))) (ap isRefused (sym q) ∙ sym er ∙ h) asked
 
   pub stands : r ≡ false → first (conditions (c z) lent (viewPlant p)) ≡ first (later z (viewPlant p))
   unfolding _⇒_

@@ -23,7 +23,7 @@ use Rattle.answers.specs.declared.Answer.{Answer}
 use Rattle.calls.specs.View.{viewCall}
 use Rattle.calls.specs.declared.Call.{Call}
 use Rattle.calls.specs.declared.Call.the-variants.{Read}
-use Rattle.promises.specs.Promise.{chosen, result, Answers, Leaves, Keeps}
+use Rattle.promises.specs.Promise.{result, Answers, Leaves, Keeps}
 use Rattle.call_read_shown.specs.values.Shown.{shownIn}
 use Rattle.call_read.specs.Shows.{fieldsOf, Shows, Found, filled, shownBy}
 use Rattle.call_read.specs.declared.Seen.{Seen}
@@ -77,7 +77,7 @@ module _ (n : ℕ) (p : Plant) (c : Call) (o : Seen) (a : Answer) (ea : o .answe
       rw ec
       (record {
         answers = λ lent e. rw ea (h lent);
-        fills = λ lent e k. rw (own-unread (viewCall y) other (o .answer) mine) (sym (none-filled (viewCall y) other lent _ (fills-only (viewCall y) lent (chosen (viewPlant p)) (viewPlant p))));
+        fills = λ lent e k. rw (own-unread (viewCall y) other (o .answer) mine) (sym (none-filled (viewCall y) other lent _ (fills-only (viewCall y) lent (viewPlant p))));
         own = mine;
         shows = λ s k e. absurd (no s k e);
         form = λ s k e. absurd (no s k e);

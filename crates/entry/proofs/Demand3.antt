@@ -6,7 +6,7 @@ use lib.ListN.{length}
 use Rattle.rules.specs.Lists.{all, isEmpty}
 use Rattle.rules.specs.Tables as M
 use Rattle.rules.specs.Calls.{Call}
-use Rattle.rules.specs.History.{History, Turn, World, turn, turns, AllAllowed, initial, emptyHistory, noteAnswer, wholeHistory}
+use Rattle.rules.specs.History.{History, Turn, World, turn, turns, initial, emptyHistory, noteAnswer, wholeHistory}
 use Rattle.rules.specs.History as H
 use Rattle.rules.specs.Demand3 as R
 use Rattle.rules.specs.Demand3.{isFine, NoneRefused}
@@ -17,49 +17,43 @@ use Rattle.plant.specs.declared.Plant.{Plant}
 use Rattle.answers.specs.View.{viewAnswer}
 use Rattle.calls.specs.View.{viewCall}
 use Rattle.entry.specs.Ran.{Ran}
-use Rattle.entry.specs.Demand3.{Event, Runs, left, noted, callsOf, exchangesOf, Drains, Holds, Demand3}
+use Rattle.entry.specs.Demand3.{Event, Runs, left, noted, callsOf, turnsOf, exchangesOf, Drains, Holds, Demand3}
 
 abbrev pub world : Plant → History → World
 world p h = record { plant = viewPlant p; history = h }
 
--- the turns of the rules that a list of calls is
+-- a list of calls is a list of turns: answers, plants and history are the same
 pub record Replay (p : Plant) (es : List Event) : Type 0 where
-  pub ts : List Turn
-  pub calls : R.callsOf ts ≡ callsOf es
-  pub exchanges : H.exchanges ts (viewPlant p) ≡ exchangesOf es
-  pub allowed : AllAllowed ts (viewPlant p)
-  pub ends : (h : History) → turns ts (world p h) ≡ world (left p es) (noted es h)
-  pub fine : NoneRefused ts (viewPlant p) → all (λ e. isFine (viewAnswer (e .answer))) es ≡ true
+  pub calls : R.callsOf (turnsOf es) ≡ callsOf es
+  pub exchanges : H.exchanges (turnsOf es) (viewPlant p) ≡ exchangesOf es
+  pub ends : (h : History) → turns (turnsOf es) (world p h) ≡ world (left p es) (noted es h)
+  pub fine : NoneRefused (turnsOf es) (viewPlant p) → all (λ e. isFine (viewAnswer (e .answer))) es ≡ true
   pub keeps : keptPlant (left p es) ≡ true
 
 -- one call more in front
 more : (p : Plant) (e : Event) (es : List Event) → Ran (e .call) (e .lent) p (e .answer) (e .words) (e .plant) → Replay (e .plant) es → Replay p (e ∷ es)
 more p e es r l =
-    let t : Turn = record { call = viewCall (e .call); lent = e .lent; pick = r .pick } in
+    let t : Turn = record { call = viewCall (e .call); lent = e .lent } in
     record {
-      ts = t ∷ l .ts;
       calls = ap (λ cs. viewCall (e .call) ∷ cs) (l .calls);
       exchanges = rw (sym (r .answers), sym (r .leaves), l .exchanges) refl;
-      allowed = (r .allowed, subst (AllAllowed (l .ts)) (r .leaves) (l .allowed));
       ends = λ h.
           let w : turn t (world p h) ≡ world (e .plant) (noteAnswer (viewCall (e .call)) (viewAnswer (e .answer)) (e .words) h) = rw (sym (r .answers), sym (r .fills), sym (r .leaves)) refl in
-          ap (turns (l .ts)) w ∙ l .ends _;
+          ap (turns (turnsOf es)) w ∙ l .ends _;
       fine = λ n.
           both (isFine (viewAnswer (e .answer))) (all (λ x. isFine (viewAnswer (x .answer))) es) (ap isFine (r .answers) ∙ n .0)
-          (l .fine (subst (NoneRefused (l .ts)) (sym (r .leaves)) (n .1)));
+          (l .fine (subst (NoneRefused (turnsOf es)) (sym (r .leaves)) (n .1)));
       keeps = l .keeps;
     }
 
 pub replay : (p : Plant) (es : List Event) → keptPlant p ≡ true → Runs p es → Replay p es
-replay p [] k rs = record { ts = []; calls = refl; exchanges = refl; allowed = tt; ends = λ h. refl; fine = λ n. refl; keeps = k }
+replay p [] k rs = record { calls = refl; exchanges = refl; ends = λ h. refl; fine = λ n. refl; keeps = k }
 replay p (e ∷ es) k rs = let r = rs .0 k in more p e es r (replay (e .plant) es (r .keeps) (rs .1))
 
 -- from set-up on
 pub record FromSetup (p : Plant) (es : List Event) : Type 0 where
-  pub ts : List Turn
-  pub allowed : AllAllowed ts (initial .plant)
-  pub ends : turns ts initial ≡ world (left p es) (noted es emptyHistory)
-  pub exchanges : H.exchanges ts (initial .plant) ≡ exchangesOf es
+  pub ends : turns (turnsOf es) initial ≡ world (left p es) (noted es emptyHistory)
+  pub exchanges : H.exchanges (turnsOf es) (initial .plant) ≡ exchangesOf es
   pub keeps : keptPlant (left p es) ≡ true
 
 pub from-setup : (p : Plant) (es : List Event) → viewPlant p ≡ M.setup → keptPlant p ≡ true → Runs p es → FromSetup p es
@@ -68,10 +62,8 @@ from-setup p es start k rs =
     let x = replay p es k rs in
     let begin : initial ≡ world p emptyHistory = rw start refl in
     record {
-      ts = x .ts;
-      allowed = subst (AllAllowed (x .ts)) start (x .allowed);
-      ends = ap (turns (x .ts)) begin ∙ x .ends emptyHistory;
-      exchanges = subst (λ z. H.exchanges (x .ts) z ≡ exchangesOf es) start (x .exchanges);
+      ends = ap (turns (turnsOf es)) begin ∙ x .ends emptyHistory;
+      exchanges = subst (λ z. H.exchanges (turnsOf es) z ≡ exchangesOf es) start (x .exchanges);
       keeps = x .keeps;
     }
 
@@ -103,9 +95,9 @@ split-calls (c ∷ cs) ds (t ∷ ts) e =
 drains : (p : Plant) (h : History) → keptPlant p ≡ true → R.Drains (world p h) → Drains p h
 drains p h k d v b l prepared es e rs =
     let x = replay p es k rs in
-    let s = split-calls (map (R.preparing v) l) (R.rounds v (length (h .buffered))) (x .ts) (x .calls ∙ e) in
-    let done : R.Drained (x .ts) (world p h) =
-    subst (λ ts. R.Drained ts (world p h)) (s .whole) (d v b l prepared (s .us) (s .vs) (s .before) (s .after) (subst (λ ts. AllAllowed ts (viewPlant p)) (sym (s .whole)) (x .allowed))) in (
+    let s = split-calls (map (R.preparing v) l) (R.rounds v (length (h .buffered))) (turnsOf es) (x .calls ∙ e) in
+    let done : R.Drained (turnsOf es) (world p h) =
+    subst (λ ts. R.Drained ts (world p h)) (s .whole) (d v b l prepared (s .us) (s .vs) (s .before) (s .after)) in (
       x .fine (done .noneRefused),
       (subst (λ w. w .plant .buffer ≡ []) (x .ends h) (done .nothingBuffered), subst (λ w. w .plant .store ≡ wholeHistory (w .history)) (x .ends h) (done .allStored)),
     )
@@ -114,7 +106,7 @@ drains p h k d v b l prepared es e rs =
 pub demand3 : Demand3
 demand3 p start k es rs =
     let x = from-setup p es start k rs in
-    let holds : R.Holds (world (left p es) (noted es emptyHistory)) = subst R.Holds (x .ends) (of-rules (x .ts) (x .allowed)) in
+    let holds : R.Holds (world (left p es) (noted es emptyHistory)) = subst R.Holds (x .ends) (of-rules (turnsOf es)) in
     record {
       firstPart = holds .firstPart;
       buffer = holds .buffer;

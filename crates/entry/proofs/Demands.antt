@@ -30,6 +30,7 @@ use Rattle.calls.specs.declared.Call.{Call}
 use Rattle.calls.specs.declared.Call.the-variants.{Load, Map, Begin, Read, Change, Commit, Abandon, Advance, Take, Apply, Delete, Cut, Sweep, Store, Report}
 use Rattle.entry_parts.specs.Session.{hasSession}
 use Rattle.entry.specs.Demands.{Unchanged, Ends, Never, EndsSession, Demand1, ReadsShow, CommitLeavesStore, Demand2}
+use Rattle.entry.specs.Demand3.{turnsOf}
 use Rattle.entry.proofs.Demand3.{from-setup}
 
 form-of : (p : Plant) → keptPlant p ≡ true → plantForm p ≡ true
@@ -42,7 +43,7 @@ parts-of p k = form-parts p (form-of p k)
 -- ── demand 1 ──
 unchanged : Unchanged
 unchanged c r n m lent p a ws q k x e =
-    let s = refusals-leave (viewCall c) lent (x .pick) (viewPlant p) r (sym (x .answers) ∙ e) n m in
+    let s = refusals-leave (viewCall c) lent (viewPlant p) r (sym (x .answers) ∙ e) n m in
     (plant-unique q p (form-of q (x .keeps)) (form-of p k) (x .leaves ∙ ap (λ z. z .plant) s), x .fills ∙ ap (λ z. z .words) s)
 
 -- a plant that is seen as another but for its sessions is that one but for its sessions
@@ -56,7 +57,7 @@ but-sessions p q k h l e =
 ends : (r : Refusal) (c : Call) (s : ℤ) → K.Ends r (viewCall c) s → Ends r c s
 unfolding viewPlant
 ends r c s h lent p a ws q k x e =
-    let z = h lent (x .pick) (viewPlant p) (sym (x .answers) ∙ e) in
+    let z = h lent (viewPlant p) (sym (x .answers) ∙ e) in
     let v : viewPlant q ≡ M.withSlots (M.freed (natOf s) (viewPlant p .slots)) (viewPlant p) = x .leaves ∙ ap (λ y. y .plant) z in
     record { others = but-sessions p q k (x .keeps) _ v; sessions = ap (λ (y : M.Plant). y .slots) v; memory = x .fills ∙ ap (λ y. y .words) z }
 
@@ -79,10 +80,10 @@ no-session (Store n) h = spares-sessions .store n
 no-session (Report s) h = absurd (true≢false h)
 
 never-three : Never R.wasDoomed
-never-three c h lent p a ws q k x e = no-session c h lent (x .pick) (viewPlant p) R.wasDoomed (sym (x .answers) ∙ e) .0 refl
+never-three c h lent p a ws q k x e = no-session c h lent (viewPlant p) R.wasDoomed (sym (x .answers) ∙ e) .0 refl
 
 never-four : Never R.exclusiveElsewhere
-never-four c h lent p a ws q k x e = no-session c h lent (x .pick) (viewPlant p) R.exclusiveElsewhere (sym (x .answers) ∙ e) .1 refl
+never-four c h lent p a ws q k x e = no-session c h lent (viewPlant p) R.exclusiveElsewhere (sym (x .answers) ∙ e) .1 refl
 
 ends-session : (r : Refusal) → Never r → K.EndsSession r → EndsSession r
 ends-session r n h =
@@ -102,13 +103,13 @@ demand1 = record { unchanged = unchanged; threeEnds = ends-session R.wasDoomed n
 reads-show : ReadsShow
 reads-show p start k es rs s y lent a ws q x ns e =
     let l = from-setup p es start k rs in
-    let Shows : World → Type 0 = λ v. (step (C.Read s y) lent (x .pick) (v .plant)) .answer ≡ C.fine ns → (step (C.Read s y) lent (x .pick) (v .plant)) .words ≡ ShownBy (v .history) s y lent in
-    x .fills ∙ subst Shows (l .ends) (of-rules (l .ts) (l .allowed) s y lent (x .pick) ns) (sym (x .answers) ∙ e)
+    let Shows : World → Type 0 = λ v. (step (C.Read s y) lent (v .plant)) .answer ≡ C.fine ns → (step (C.Read s y) lent (v .plant)) .words ≡ ShownBy (v .history) s y lent in
+    x .fills ∙ subst Shows (l .ends) (of-rules (turnsOf es) s y lent ns) (sym (x .answers) ∙ e)
 
 leaves-store : CommitLeavesStore
 unfolding viewPlant
 leaves-store s lent p a ws q k x =
-    let h = commit-leaves-store s lent (x .pick) (viewPlant p) in
+    let h = commit-leaves-store s lent (viewPlant p) in
     let f = parts-of p k in
     let g = parts-of q (x .keeps) in (
       store-unique (q .store) (p .store) (g .store) (f .store) (ap (λ (y : M.Plant). y .store) (x .leaves) ∙ h .0),

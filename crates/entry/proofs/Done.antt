@@ -12,7 +12,7 @@ use Rattle.calls.specs.View.{viewCall}
 use Rattle.calls.specs.declared.Call.{Call}
 use Rattle.promises.specs.Promise.{Performs}
 use Rattle.promises.proofs.Leaving.{stays, ends}
-use Rattle.promises.proofs.Chosen.{and-keeps, performed}
+use Rattle.promises.proofs.Keeping.{and-keeps, performed}
 use Rattle.entry.specs.Refused.{RefusalLeaves}
 use Rattle.entry.proofs.Asked.{Done}
 

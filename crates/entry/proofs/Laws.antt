@@ -3,24 +3,18 @@ use mathlib.Core.Path.{_≡_}
 use mathlib.Core.Bool.{true}
 use mathlib.Core.List.{List}
 use lib.IntN.{ℤ}
-use Rattle.rules.specs.Kept.{kept}
-use Rattle.rules.proofs.Laws.{and-true}
-use Rattle.plant.specs.View.{viewPlant, plantForm, keptPlant}
+use Rattle.plant.specs.View.{keptPlant}
 use Rattle.plant.specs.declared.Plant.{Plant}
 use Rattle.answers.specs.declared.Answer.{Answer}
 use Rattle.calls.specs.View.{viewCall}
 use Rattle.calls.specs.declared.Call.{Call}
-use Rattle.promises.specs.Promise.{chosen, result, Answers, Leaves, Keeps}
-use Rattle.promises.proofs.Chosen.{chosen-allowed}
+use Rattle.promises.specs.Promise.{result, Answers, Leaves, Keeps}
 use Rattle.entry.specs.Ran.{Ran}
 
 pub ran : (c : Call) (lent ws : List ℤ) (p q : Plant) (a : Answer) → Answers (viewCall c) lent p a → (keptPlant p ≡ true → ws ≡ result (viewCall c) lent p .words)
     → Leaves (viewCall c) p a q → Keeps (viewCall c) p a q → keptPlant p ≡ true → Ran c lent p a ws q
-unfolding keptPlant
 ran c lent ws p q a answers fills leaves keeps k =
     record {
-      pick = chosen (viewPlant p);
-      allowed = chosen-allowed (viewPlant p) (and-true (plantForm p) (kept (viewPlant p)) k .1);
       answers = answers k;
       fills = fills k;
       leaves = leaves k lent (answers k);

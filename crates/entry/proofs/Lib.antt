@@ -1,4 +1,5 @@
--- What a call is answered and what it leaves, calls run one after the other, the three demands of the code, and the order of the cached keys.
+-- What a call is answered and what it leaves, calls run one after the other, the three demands of the code, equal calls, and the order of the
+-- cached keys and of the rows.
 mod Laws
 mod Asked
 mod Done
@@ -6,4 +7,6 @@ pub mod RunAll
 pub mod Demand3
 pub mod Demands
 pub mod Listed
+pub mod Equal
 pub mod CacheOrder
+pub mod RowOrder

@@ -1,11 +1,11 @@
 -- The key cached longest ago gives way, of the code: what is claimed of calls that are run through the entry. Its proofs are proofs/CacheOrder,
 -- from the rules' theorem and the entry's promise alone.
 use mathlib.Core.Path.{_≡_}
-use mathlib.Core.Bool.{Bool, false, not, true}
-use mathlib.Core.List.{List, [], _∷_, map}
+use mathlib.Core.Bool.{true}
+use mathlib.Core.List.{List, [], _∷_}
 use lib.ListN.{length}
 use lib.IntN.{ℤ}
-use Rattle.rules.specs.Lists.{all, sameCase, InOrder}
+use Rattle.rules.specs.Lists.{InOrder}
 use Rattle.rules.specs.Limits.{cacheLimit}
 use Rattle.rules.specs.Values.{natOf}
 use Rattle.rules.specs.Tables as M
@@ -15,11 +15,9 @@ use Rattle.plant.specs.View.{viewPlant, keptPlant}
 use Rattle.plant.specs.declared.Plant.{Plant}
 use Rattle.answers.specs.View.{viewAnswer}
 use Rattle.answers.specs.declared.Answer.{Answer}
-use Rattle.calls.specs.View.{viewCall}
-use Rattle.calls.specs.declared.Call.{Call}
 use Rattle.calls.specs.declared.Call.the-variants.{Read, Commit}
-use Rattle.entry.specs.Ran.{result, Ran}
-use Rattle.entry.specs.Demand3.{Event, Runs, left, callsOf, exchangesOf}
+use Rattle.entry.specs.Ran.{Ran}
+use Rattle.entry.specs.Demand3.{Event, Runs, left, exchangesOf}
 
 -- after every list of calls from the empty plant the cached keys stand in the order of the reads that cached them
 abbrev pub InReadOrder : Type 0
@@ -40,25 +38,3 @@ abbrev pub CommitCachesNone : Type 0
 CommitCachesNone =
     (s : ℤ) (lent : List ℤ) (p : Plant) (a : Answer) (words : List ℤ) (q : Plant) → Ran (Commit s) lent p a words q
     → M.keysOf (viewPlant q .cache) ≡ M.keysOf (viewPlant p .cache)
-
-abbrev pub isSweep : Call → Bool
-isSweep c = sameCase C.callNumber (viewCall c) C.Sweep
-
--- of every call but a sweep the entry's promise is an equation: whatever is chosen, answer, words and plant are those of `step`
-abbrev pub Exact : Type 0
-Exact =
-    (c : Call) (lent : List ℤ) (p : Plant) (a : Answer) (words : List ℤ) (q : Plant) → isSweep c ≡ false → Ran c lent p a words q
-    → (pick : C.Pick) → record { answer = viewAnswer a; words = words; plant = viewPlant q } ≡ result c lent pick p
-
--- so two plants with equal calls, none of them a sweep, answer and show the same, and leave the same
-pub record Alike (p : Plant) (es : List Event) (q : Plant) (fs : List Event) : Type 0 where
-  pub answers : exchangesOf es ≡ exchangesOf fs
-  pub shows : map (λ (e : Event). e .words) es ≡ map (λ (e : Event). e .words) fs
-  pub leaves : viewPlant (left p es) ≡ viewPlant (left q fs)
-
-abbrev pub EqualCalls : Type 0
-EqualCalls =
-    (p q : Plant) → viewPlant p ≡ viewPlant q → keptPlant p ≡ true → keptPlant q ≡ true
-    → (es fs : List Event) → Runs p es → Runs q fs
-    → callsOf es ≡ callsOf fs → map (λ (e : Event). e .lent) es ≡ map (λ (e : Event). e .lent) fs → all (λ e. not (isSweep (e .call))) es ≡ true
-    → Alike p es q fs

@@ -10,7 +10,7 @@ use Rattle.rules.specs.Lists.{all}
 use Rattle.rules.specs.Limits.{workerCount}
 use Rattle.rules.specs.Tables as M
 use Rattle.rules.specs.Calls as C
-use Rattle.rules.specs.History.{History, emptyHistory, noteAnswer, wholeHistory, Exchange}
+use Rattle.rules.specs.History.{History, emptyHistory, noteAnswer, wholeHistory, Turn, Exchange}
 use Rattle.rules.specs.Demand3.{FirstPart, CommitOrder, AllRight, Preparation, preparing, Prepares, rounds, isFine}
 use Rattle.plant.specs.View.{viewPlant, keptPlant}
 use Rattle.plant.specs.declared.Plant.{Plant}
@@ -45,6 +45,10 @@ noted (e ∷ es) h = noted es (noteAnswer (viewCall (e .call)) (viewAnswer (e .a
 
 abbrev pub callsOf : List Event → List C.Call
 callsOf = map (λ e. viewCall (e .call))
+
+-- the rules' turns that they are
+abbrev pub turnsOf : List Event → List Turn
+turnsOf = map (λ e. record { call = viewCall (e .call); lent = e .lent })
 
 -- calls with their answers
 abbrev pub exchangesOf : List Event → List Exchange

@@ -1,8 +1,11 @@
--- What the entry promises of one call and of a list, demands 1 and 2 of its calls, demand 3 of every list of calls, and the order of the cached keys.
+-- What the entry promises of one call and of a list, demands 1 and 2 of its calls, demand 3 of every list of calls, that equal calls are answered
+-- alike, and the order of the cached keys and of the rows.
 pub mod Ran
 pub mod Refused
 pub mod RanAll
 pub mod Demand3
 pub mod Demands
 pub mod Listed
+pub mod Equal
 pub mod CacheOrder
+pub mod RowOrder

@@ -164,7 +164,7 @@ pub record Going (lines answers : List ℕ) (at : ℕ) (s : Server) (m : Match) 
   pub tells : Matches answers came m
 
 pub going-none : (lines answers : List ℕ) (s : Server) (m : Match) → viewPlant (s .plant) ≡ setup → viewPending (s .pending) ≡ [] → keptServer s ≡ true → Matches answers [] m → Going lines answers 0 s m
-going-none lines answers s m p e k t = record { came = []; feeds = rw (p, e) (record { serves = (refl, refl); keeps = refl }); keeps = k; tells = t }
+going-none lines answers s m p e k t = record { came = []; feeds = rw (p, e) (record { serves = refl; keeps = refl }); keeps = k; tells = t }
 
 module _ (lines answers : List ℕ) (at : ℕ) (s : Server) (m : Match) (g : Going lines answers at s m) (out : List ℕ) (t : Server) (r : Match)
     (told : (came : List ℕ) → Matches answers came m → Matches answers (came ++ take (t .wrote) out) r) where

@@ -77,11 +77,11 @@ abbrev pub RunLeads : Type 0
 RunLeads = (s : Server) (n : ℕ) (bytes answers : List ℕ) (t : Server) (unused : List ℕ) → Run s n bytes answers t unused → Led s bytes answers t unused
 
 -- what was answered in all, with the last bytes, is the answer to the lines of all bytes read; demands 1 to 3 hold of them, and the cached
--- keys stand in the order of the reads
+-- keys and the rows stand in their order
 pub record Whole (bytes answers : List ℕ) (p : Plant) : Type 0 where
   pub serves : Serves (linesOf bytes) setup answers p
   pub meets : Meets (linesOf bytes) initial (linesOf answers) p
-  pub holds : Made (linesOf bytes) answers p
+  pub holds : Made (linesOf bytes) p
 
 abbrev pub RunServed : Type 0
 RunServed =

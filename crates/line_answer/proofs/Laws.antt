@@ -11,21 +11,20 @@ use lib.Seq.{drop-at, drop-drop, length-take-le, take-all, take-at, take-suc}
 use native.Mathlib.Numerals.{add-one}
 use borrow.Rule.Slice.PartMut.{putMid, postOf}
 use borrow.Author.Tests.{le-leb, leb-true, not-false}
-use Rattle.rules.specs.Limits.{keyCount, placeLimit, wordsPerField}
+use Rattle.rules.specs.Limits.{keyCount, wordsPerField}
 use Rattle.rules.specs.Values.{below, Place}
 use Rattle.rules.specs.Refusals.{outOfRange}
-use Rattle.rules.specs.Kept.{kept}
 use Rattle.rules.specs.Step.{step}
 use Rattle.rules.specs.Conditions.{conditions}
 use Rattle.rules.specs.Calls as C
-use Rattle.rules.proofs.Laws.{not-met, and-true, byCase}
+use Rattle.rules.proofs.Laws.{not-met, byCase}
 use Rattle.calls.specs.View.{viewCall}
 use Rattle.calls.specs.declared.Call.{Call}
 use Rattle.calls.specs.declared.Call.the-variants.{Load, Map, Begin, Read, Change, Commit, Abandon, Advance, Take, Apply, Delete, Cut, Sweep, Store, Report}
 use Rattle.line_format.specs.Lines.{says, faulty, answerLine}
 use Rattle.line_format.specs.Serving.{lentWords, placesShown, ended, performed}
 use Rattle.line_format.proofs.Words.{words-unseen}
-use Rattle.plant.specs.View.{viewPlant, plantForm, keptPlant}
+use Rattle.plant.specs.View.{viewPlant, keptPlant}
 use Rattle.plant.specs.declared.Plant.{Plant}
 use Rattle.answers.specs.View.{viewRefusal, viewAnswer, isRefused}
 use Rattle.answers.specs.declared.Refusal.{Refusal}
@@ -33,8 +32,6 @@ use Rattle.answers.specs.declared.Answer.{Answer}
 use Rattle.line_print.specs.columns.Printed.{printed}
 use Rattle.line_print.specs.Line.{longest, taken}
 use Rattle.line_print.proofs.LineLaws.{line-short}
-use Rattle.promises.specs.Promise.{chosen}
-use Rattle.promises.proofs.Chosen.{chosen-allowed}
 use Rattle.promises.proofs.Telling.{none-held}
 use Rattle.entry.specs.Ran.{Ran}
 use Rattle.entry.specs.RanAll.{Entered}
@@ -117,8 +114,8 @@ module _ (c : Call) (lent : List ℤ) (p : Plant) (t : Told) (words : List ℤ) 
   key-is : (s k : ℤ) → c ≡ Read s k → isRefused (viewAnswer (t .answer)) ≡ false → below k keyCount ≡ true
   unfolding conditions
   key-is s k ec r =
-      let a : viewAnswer (t .answer) ≡ step (C.Read s k) lent (ran .pick) (viewPlant p) .answer = ran .answers ∙ ap (λ x. step (viewCall x) lent (ran .pick) (viewPlant p) .answer) ec in
-      not-false _ (not-met _ outOfRange (none-held (C.Read s k) lent (ran .pick) (viewPlant p) (viewAnswer (t .answer)) a r .0))
+      let a : viewAnswer (t .answer) ≡ step (C.Read s k) lent (viewPlant p) .answer = ran .answers ∙ ap (λ x. step (viewCall x) lent (viewPlant p) .answer) ec in
+      not-false _ (not-met _ outOfRange (none-held (C.Read s k) lent (viewPlant p) (viewAnswer (t .answer)) a r .0))
 
   -- as many words are shown as the format says
   shown-are : isRefused (viewAnswer (t .answer)) ≡ false → t .shown ≡ wordsPerField * placesShown (viewCall c) (viewPlant p .keys)
@@ -126,25 +123,17 @@ module _ (c : Call) (lent : List ℤ) (p : Plant) (t : Told) (words : List ℤ) 
       shown (t .shown) (viewPlant p .keys) c (λ n. e .leaves (own-unread (viewCall c) n (t .answer) (e .own)) .1)
       (λ s k ec. e .shows s k ec r .1 ∙ ap (λ i. wordsPerField * i) (shown-count (viewPlant p) (kept-parts p h) (sessionNumber s) (keyAt k) ∙ rw (key-is s k ec r) refl))
 
-  told-is : toldLine t words ≡ performed (says (viewCall c)) (ran .pick) (viewPlant p) .bytes
+  told-is : toldLine t words ≡ performed (says (viewCall c)) (viewPlant p) .bytes
   told-is =
       ap ended (same-line (viewAnswer (t .answer)) (t .shown) _ words shown-are ∙ ap₂ (λ x ws. answerLine x (take (wordsPerField * placesShown (viewCall c) (viewPlant p .keys)) ws)) (ran .answers) (ran .fills))
-      ∙ ap (λ v. v .bytes) (words-unseen lent lentWords l (ran .pick) (viewPlant p) (viewCall c))
+      ∙ ap (λ v. v .bytes) (words-unseen lent lentWords l (viewPlant p) (viewCall c))
 
   pub told : Answered (says (viewCall c)) p (toldLine t words) q
-  told = record { pick = ran .pick; allowed = ran .allowed; prints = told-is; leaves = ran .leaves ∙ ap (λ v. v .plant) (words-unseen lent lentWords l (ran .pick) (viewPlant p) (viewCall c)); keeps = ran .keeps }
+  told = record { prints = told-is; leaves = ran .leaves ∙ ap (λ v. v .plant) (words-unseen lent lentWords l (viewPlant p) (viewCall c)); keeps = ran .keeps }
 
 -- a line that says no call
 pub refused : (r : Refusal) (p : Plant) → keptPlant p ≡ true → Answered (faulty (viewRefusal r)) p (refusedLine r) p
-unfolding keptPlant
-refused r p h =
-    record {
-      pick = chosen (viewPlant p);
-      allowed = chosen-allowed (viewPlant p) (and-true (plantForm p) (kept (viewPlant p)) h .1);
-      prints = refl;
-      leaves = refl;
-      keeps = h;
-    }
+refused r p h = record { prints = refl; leaves = refl; keeps = h }
 
 -- by the bytes printed
 pub put-front : (most : ℕ) (bytes lent out : List ℕ) (len : ℕ) → Put most bytes lent out len → take len out ≡ bytes

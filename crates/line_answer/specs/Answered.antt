@@ -1,5 +1,5 @@
 -- What is printed: of any plant, which bytes they are; and on a plant that keeps the tables' rules, that they and the plant left are those that
--- the format says, for an allowed choice.
+-- the format says.
 use Prim.Native.Nat.{_*_, _≤_, ℕ}
 use mathlib.Core.Path.{_≡_}
 use mathlib.Core.Bool.{true}
@@ -7,8 +7,7 @@ use mathlib.Core.List.{List, [], _∷_, _++_}
 use lib.IntN.{ℤ}
 use lib.ListN.{drop, length, take}
 use Rattle.rules.specs.Limits.{wordsPerField, placeLimit}
-use Rattle.rules.specs.Calls.{Pick, refused}
-use Rattle.rules.specs.Step.{Allowed}
+use Rattle.rules.specs.Calls.{refused}
 use Rattle.line_format.specs.Lines as L
 use Rattle.line_format.specs.Serving.{ended, performed}
 use Rattle.plant.specs.View.{viewPlant, keptPlant}
@@ -19,10 +18,8 @@ use Rattle.entry.specs.declared.Told.{Told}
 
 -- the bytes answered to what a line says, and the plant left
 pub record Answered (said : L.Said) (p : Plant) (bytes : List ℕ) (q : Plant) : Type 0 where
-  pub pick : Pick
-  pub allowed : Allowed pick (viewPlant p)
-  pub prints : bytes ≡ (performed said pick (viewPlant p)) .bytes
-  pub leaves : viewPlant q ≡ (performed said pick (viewPlant p)) .plant
+  pub prints : bytes ≡ (performed said (viewPlant p)) .bytes
+  pub leaves : viewPlant q ≡ (performed said (viewPlant p)) .plant
   pub keeps : keptPlant q ≡ true
 
 -- ── of any plant, whether it keeps the tables' rules or not ──

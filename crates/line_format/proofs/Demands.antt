@@ -17,10 +17,10 @@ use Rattle.rules.specs.Refusals.{Refusal, outOfRange, noSlot, wasDoomed, exclus
 use Rattle.rules.specs.Values.{below, natOf, showAll}
 use Rattle.rules.specs.Changes.{follow}
 use Rattle.rules.specs.Tables.{Plant}
-use Rattle.rules.specs.Calls.{Call, Read, Answer, refused, fine, Result, Pick}
+use Rattle.rules.specs.Calls.{Call, Read, Answer, refused, fine, Result}
 use Rattle.rules.specs.Conditions.{conditions}
-use Rattle.rules.specs.Step.{accepted, sessionOf, step, Allowed}
-use Rattle.rules.specs.History.{changesOf, wholeHistory, Turn, World, turn, turns, AllAllowed, initial}
+use Rattle.rules.specs.Step.{accepted, sessionOf, step}
+use Rattle.rules.specs.History.{changesOf, wholeHistory, Turn, World, turns, initial}
 use Rattle.rules.proofs.Laws.{byCase, not-met}
 use Rattle.rules.proofs.Steps.{step-fine, fine-none, refused-is, refusals-leave}
 use Rattle.rules.proofs.Sessionless.{no-session}
@@ -33,7 +33,8 @@ use Rattle.rules.proofs.Frames.{commit-leaves-store}
 use Rattle.line_format.specs.Bytes.{newline, space, minus, digitZero, base, callWidth, numberWidth}
 use Rattle.line_format.specs.Columns.{before, column, digitsIn, isNegative, magnitude, naturalIn}
 use Rattle.line_format.specs.Lines.{Said, says, faulty, said, columns, answerLine}
-use Rattle.line_format.specs.Serving.{lentWords, placesShown, ended, performed, serve, linesOf, Serves}
+use Rattle.line_format.specs.Serving.{lentWords, placesShown, ended, performed, serve, served, linesOf}
+use Rattle.line_format.specs.Demand3.{turnsOfLine}
 use Rattle.line_format.specs.Feeding.{hasEnd}
 use Rattle.line_format.specs.Demands.{firstNumber, IsAccepted, IsRefused, AnswersDiffer, readLine, LeavesStore, LineMeets, lineLeaves, Meets, LinesMeet}
 use Rattle.line_format.proofs.Cutting.{no-end-append, lines-line}
@@ -139,57 +140,57 @@ no-end-answer (fine ns) shown = no-end-append (column callWidth (pos 0)) (column
 abbrev lineFor : Call → Plant → Result → List ℕ
 lineFor c p r = answerLine (r .answer) (take (wordsPerField * placesShown c (p .keys)) (r .words))
 
-abbrev printedFor : Said → Pick → Plant → List ℕ
-printedFor (says c) pick p = lineFor c p (step c lentWords pick p)
-printedFor (faulty r) pick p = answerLine (refused r) []
+abbrev printedFor : Said → Plant → List ℕ
+printedFor (says c) p = lineFor c p (step c lentWords p)
+printedFor (faulty r) p = answerLine (refused r) []
 
-ended-is : (x : Said) (pick : Pick) (p : Plant) → (performed x pick p .bytes ≡ ended (printedFor x pick p)) × (hasEnd (printedFor x pick p) ≡ false)
-ended-is (says c) pick p = (refl, no-end-answer (step c lentWords pick p .answer) (take (wordsPerField * placesShown c (p .keys)) (step c lentWords pick p .words)))
-ended-is (faulty r) pick p = (refl, no-end-answer (refused r) [])
+ended-is : (x : Said) (p : Plant) → (performed x p .bytes ≡ ended (printedFor x p)) × (hasEnd (printedFor x p) ≡ false)
+ended-is (says c) p = (refl, no-end-answer (step c lentWords p .answer) (take (wordsPerField * placesShown c (p .keys)) (step c lentWords p .words)))
+ended-is (faulty r) p = (refl, no-end-answer (refused r) [])
 
 -- the call of a line is that which it says
 said-call : {c d : Call} → says c ≡ says d → c ≡ d
 said-call e = cc
 
-module _ (ts : List Turn) (f : AllAllowed ts (initial .plant)) (pick : Pick) where
+module _ (ts : List Turn) where
   abbrev w : World
   w = turns ts initial
 
   abbrev p : Plant
   p = turns ts initial .plant
 
-  read-line : (s k : ℤ) → IsAccepted (lineFor (Read s k) p (step (Read s k) lentWords pick p)) → lineFor (Read s k) p (step (Read s k) lentWords pick p) ≡ readLine w s k
+  read-line : (s k : ℤ) → IsAccepted (lineFor (Read s k) p (step (Read s k) lentWords p)) → lineFor (Read s k) p (step (Read s k) lentWords p) ≡ readLine w s k
   unfolding conditions accepted
   read-line s k h =
-      let r = step (Read s k) lentWords pick p in
+      let r = step (Read s k) lentWords p in
       let printed = take (wordsPerField * placesShown (Read s k) (p .keys)) (r .words) in
       let a = answers-differ .accepted (r .answer) printed h in
-      let m = fine-none (Read s k) lentWords pick p (a .0) (a .1) in
-      let keys = inv-turns ts initial f initial-kept inv-initial .keys in
+      let m = fine-none (Read s k) lentWords p (a .0) (a .1) in
+      let keys = inv-turns ts initial initial-kept inv-initial .keys in
       let stock = follow (wholeHistory (w .history)) (changesOf (w .history .page (natOf s))) in
       let qs = w .history .keys (natOf k) in
       let n = wordsPerField * length qs in
       let count : wordsPerField * placesShown (Read s k) (p .keys) ≡ n =
       ap (λ b. wordsPerField * cond b (length (p .keys (natOf k))) 0) (not-false (below k keyCount) (not-met _ _ (m .0))) ∙ ap (λ ks. wordsPerField * length (ks (natOf k))) (sym keys) in
       let words : printed ≡ showAll (map stock qs) =
-      ap (λ i. take i (r .words)) count ∙ ap (take n) (reads-show ts f s k lentWords pick (a .0) (a .1)) ∙ take-at (showAll (map stock qs)) (drop n lentWords) n (length-showAll stock qs) in
-      ap (λ z. answerLine (z .answer) printed) (step-fine (Read s k) lentWords pick p m)
+      ap (λ i. take i (r .words)) count ∙ ap (take n) (reads-show ts s k lentWords (a .0) (a .1)) ∙ take-at (showAll (map stock qs)) (drop n lentWords) n (length-showAll stock qs) in
+      ap (λ z. answerLine (z .answer) printed) (step-fine (Read s k) lentWords p m)
       ∙ ap (answerLine _) (words ∙ sym (append-nil (showAll (map stock qs))) ∙ ap (λ l. showAll (map stock qs) ++ l) (sym (drop-nil n)))
 
-  line-meets : (x : Said) → LineMeets x w (printedFor x pick p) (lineLeaves x pick w .plant)
+  line-meets : (x : Said) → LineMeets x w (printedFor x p) (lineLeaves x w .plant)
   line-meets (says c) =
-      let r = step c lentWords pick p in
+      let r = step c lentWords p in
       let words = take (wordsPerField * placesShown c (p .keys)) (r .words) in
       record {
         tells = some-answer (r .answer) words;
-        leaves = λ n e u v. ap (λ z. z .plant) (refusals-leave c lentWords pick p n (answers-differ .refusal (r .answer) words n e) u v);
-        three = λ e. ap (λ z. z .plant) (refused-is c lentWords pick p wasDoomed (answers-differ .refusal (r .answer) words wasDoomed e));
-        four = λ e. ap (λ z. z .plant) (refused-is c lentWords pick p exclusiveElsewhere (answers-differ .refusal (r .answer) words exclusiveElsewhere e));
+        leaves = λ n e u v. ap (λ z. z .plant) (refusals-leave c lentWords p n (answers-differ .refusal (r .answer) words n e) u v);
+        three = λ e. ap (λ z. z .plant) (refused-is c lentWords p wasDoomed (answers-differ .refusal (r .answer) words wasDoomed e));
+        four = λ e. ap (λ z. z .plant) (refused-is c lentWords p exclusiveElsewhere (answers-differ .refusal (r .answer) words exclusiveElsewhere e));
         names = λ d e n.
-            let spares = no-session c (ap sessionOf (said-call e) ∙ n) lentWords pick p in
+            let spares = no-session c (ap sessionOf (said-call e) ∙ n) lentWords p in
             (λ i. spares wasDoomed (answers-differ .refusal (r .answer) words wasDoomed i) .0 refl, λ i. spares exclusiveElsewhere (answers-differ .refusal (r .answer) words exclusiveElsewhere i) .1 refl);
-        shows = λ s k e. subst (λ d. IsAccepted (lineFor d p (step d lentWords pick p)) → lineFor d p (step d lentWords pick p) ≡ readLine w s k) (sym (said-call e)) (read-line s k);
-        commits = λ s e. subst (λ d. LeavesStore p (step d lentWords pick p .plant)) (sym (said-call e)) (commit-leaves-store s lentWords pick p);
+        shows = λ s k e. subst (λ d. IsAccepted (lineFor d p (step d lentWords p)) → lineFor d p (step d lentWords p) ≡ readLine w s k) (sym (said-call e)) (read-line s k);
+        commits = λ s e. subst (λ d. LeavesStore p (step d lentWords p .plant)) (sym (said-call e)) (commit-leaves-store s lentWords p);
       }
   line-meets (faulty r) =
       record {
@@ -203,41 +204,32 @@ module _ (ts : List Turn) (f : AllAllowed ts (initial .plant)) (pick : Pick) whe
       }
 
 -- ── lines ──
-allowed-last : (ts : List Turn) (t : Turn) (w : World) → AllAllowed ts (w .plant) → Allowed (t .pick) (turns ts w .plant) → AllAllowed (ts ++ (t ∷ [])) (w .plant)
-allowed-last [] t w f a = (a, tt)
-allowed-last (u ∷ ts) t w f a = (f .0, allowed-last ts t (turn u w) (f .1) a)
-
 -- the turns that lead to the world that a line leaves
 record Reached (w : World) : Type 0 where
   ts : List Turn
-  allowed : AllAllowed ts (initial .plant)
   is : turns ts initial ≡ w
 
-further : (x : Said) (ts : List Turn) → AllAllowed ts (initial .plant) → (pick : Pick) → Allowed pick (turns ts initial .plant) → Reached (lineLeaves x pick (turns ts initial))
-further (says c) ts f pick a =
-    let t : Turn = record { call = c; lent = lentWords; pick = pick } in
-    record { ts = ts ++ (t ∷ []); allowed = allowed-last ts t initial f a; is = turns-append ts (t ∷ []) initial }
-further (faulty r) ts f pick a = record { ts = ts; allowed = f; is = refl }
+further : (x : Said) (ts : List Turn) → Reached (lineLeaves x (turns ts initial))
+further x ts = record { ts = ts ++ turnsOfLine x; is = turns-append ts (turnsOfLine x) initial }
 
-left-is : (x : Said) (pick : Pick) (w : World) → performed x pick (w .plant) .plant ≡ lineLeaves x pick w .plant
-left-is (says c) pick w = refl
-left-is (faulty r) pick w = refl
+left-is : (x : Said) (w : World) → performed x (w .plant) .plant ≡ lineLeaves x w .plant
+left-is (says c) w = refl
+left-is (faulty r) w = refl
 
-meets : (ls : List (List ℕ)) (w : World) → Reached w → (out : List ℕ) (q : Plant) → Serves ls (w .plant) out q → Meets ls w (linesOf out) q
+meets : (ls : List (List ℕ)) (w : World) → Reached w → Meets ls w (linesOf (served ls (w .plant) .bytes)) (served ls (w .plant) .plant)
 unfolding serve
-meets [] w h out q s = (ap linesOf (s .0), s .1)
-meets (l ∷ ls) w h out q s =
+meets [] w h = (refl, refl)
+meets (l ∷ ls) w h =
     let x = said l in
-    let pick = s .0 in
-    let rest = s .1 .1 .0 in
-    let o = printedFor x pick (w .plant) in
-    let b = ended-is x pick (w .plant) in
-    let lines : linesOf out ≡ o ∷ linesOf rest = ap linesOf (s .1 .1 .1 .0 ∙ ap (λ z. z ++ rest) (b .0) ∙ append-assoc o (newline ∷ []) rest) ∙ lines-line o rest (b .1) in
-    let met : LineMeets x w o (lineLeaves x pick w .plant) = subst (λ v. LineMeets x v (printedFor x pick (v .plant)) (lineLeaves x pick v .plant)) (h .is) (line-meets (h .ts) (h .allowed) pick x) in
-    let next : Reached (lineLeaves x pick w) = subst (λ v. Allowed pick (v .plant) → Reached (lineLeaves x pick v)) (h .is) (further x (h .ts) (h .allowed) pick) (s .1 .0) in
-    rw lines
-    (pick, (s .1 .0, (sym (b .0), (met, meets ls (lineLeaves x pick w) next rest q (subst (λ z. Serves ls z rest q) (left-is x pick w) (s .1 .1 .1 .1))))))
+    let o = printedFor x (w .plant) in
+    let b = ended-is x (w .plant) in
+    let rest = served ls (performed x (w .plant) .plant) in
+    let lines : linesOf (performed x (w .plant) .bytes ++ rest .bytes) ≡ o ∷ linesOf (rest .bytes) =
+    ap linesOf (ap (λ z. z ++ rest .bytes) (b .0) ∙ append-assoc o (newline ∷ []) (rest .bytes)) ∙ lines-line o (rest .bytes) (b .1) in
+    let met : LineMeets x w o (lineLeaves x w .plant) = subst (λ v. LineMeets x v (printedFor x (v .plant)) (lineLeaves x v .plant)) (h .is) (line-meets (h .ts) x) in
+    let next : Reached (lineLeaves x w) = subst (λ v. Reached (lineLeaves x v)) (h .is) (further x (h .ts)) in
+    rw lines (sym (b .0), (met, subst (λ z. Meets ls (lineLeaves x w) (linesOf (served ls z .bytes)) (served ls z .plant)) (sym (left-is x w)) (meets ls (lineLeaves x w) next)))
 
 pub lines-meet : LinesMeet
 unfolding initial
-lines-meet ls out q s = meets ls initial (record { ts = []; allowed = tt; is = refl }) out q s
+lines-meet ls = meets ls initial (record { ts = []; is = refl })

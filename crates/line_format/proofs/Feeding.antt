@@ -1,7 +1,7 @@
 -- Pieces one after the other do what the whole input does, however it is cut.
 use Prim.Native.Nat.{ℕ, suc, zero}
 use mathlib.Core.Path.{_≡_, refl, sym, _∙_, ap, subst}
-use mathlib.Core.Bool.{cond, false, true≢false}
+use mathlib.Core.Bool.{false, true≢false}
 use mathlib.Core.List.{List, [], _++_, _∷_, append-assoc, append-nil, map}
 use lib.ListN.{take}
 use lib.Dec.{eqb}
@@ -9,10 +9,10 @@ use borrow.Author.Tests.{eqb-true}
 use Rattle.rules.proofs.Laws.{byCase}
 use Rattle.rules.specs.Tables.{Plant}
 use Rattle.line_format.specs.Bytes.{newline, lineLimit}
-use Rattle.line_format.specs.Serving.{linesOf, Serves}
+use Rattle.line_format.specs.Serving.{served, linesOf, Serves}
 use Rattle.line_format.specs.Feeding.{hasEnd, complete, unended, lastLine, Feeds}
 use Rattle.line_format.proofs.Cutting.{complete-none, unended-all, no-end-append, complete-line, unended-line, unended-no-end, complete-append, unended-append, lines-complete}
-use Rattle.line_format.proofs.Serving.{serves-append, serves-short, serves-cut}
+use Rattle.line_format.proofs.Serving.{serves-append, served-short}
 
 -- ── a line cut short, with more after it ──
 abbrev shortened : List (List ℕ) → List (List ℕ)
@@ -64,7 +64,7 @@ take-again u = ap (take lineLimit) (sym (append-nil (take lineLimit u))) ∙ tak
 
 whole-last : (l : List ℕ) (q r : Plant) (last : List ℕ) → Serves (lastLine (take lineLimit l)) q last r → Serves (lastLine l) q last r
 whole-last [] q r last s = s
-whole-last (b ∷ l) q r last s = serves-short ((b ∷ l) ∷ []) q r last s
+whole-last (b ∷ l) q r last s = s ∙ served-short ((b ∷ l) ∷ []) q
 
 -- ── pieces ──
 -- what is kept of a line never holds byte 10
@@ -83,7 +83,7 @@ feeds-append kept xs ys out out′ mid left p q r f g =
       serves =
           subst (λ ls. Serves ls p (out ++ out′) r) (sym (ap complete (sym (append-assoc kept xs ys)) ∙ complete-append (kept ++ xs) ys))
           (serves-append (complete (kept ++ xs)) (complete (u ++ ys)) p q r out out′ (f .serves)
-          (serves-short (complete (u ++ ys)) q r out′ (subst (λ ls. Serves ls q out′ r) short (serves-cut (complete (mid ++ ys)) q r out′ (g .serves)))));
+          (g .serves ∙ sym (served-short (complete (mid ++ ys)) q) ∙ ap (λ ls. served ls q) short ∙ served-short (complete (u ++ ys)) q));
       keeps = g .keeps ∙ tail ∙ ap (take lineLimit) (sym (ap unended (sym (append-assoc kept xs ys)) ∙ unended-append (kept ++ xs) ys));
     }
 

@@ -1,27 +1,26 @@
 -- Lines served one by one, in parts, and by their first bytes alone.
 use Prim.Native.Nat.{ℕ}
-use mathlib.Core.Path.{_∙_, ap, refl, sym}
+use mathlib.Core.Path.{_≡_, ap, refl, sym}
 use mathlib.Core.List.{List, [], _++_, _∷_, append-assoc, map}
 use lib.ListN.{take}
 use Rattle.rules.specs.Tables.{Plant}
 use Rattle.line_format.specs.Bytes.{lineLimit}
-use Rattle.line_format.specs.Serving.{Serves, serve}
+use Rattle.line_format.specs.Serving.{Served, Serves, serve, served}
 use Rattle.line_format.proofs.Short.{short-serve}
 
+served-append : (ls ms : List (List ℕ)) (p : Plant) → served (ls ++ ms) p
+    ≡ record { bytes = served ls p .bytes ++ served ms (served ls p .plant) .bytes; plant = served ms (served ls p .plant) .plant }
+served-append [] ms p = refl
+served-append (l ∷ ls) ms p =
+    let v = serve l p in
+    let w = served ls (v .plant) in
+    rw (served-append ls ms (v .plant), append-assoc (v .bytes) (w .bytes) (served ms (w .plant) .bytes)) refl
+
 pub serves-append : (ls ms : List (List ℕ)) (p q r : Plant) (out out′ : List ℕ) → Serves ls p out q → Serves ms q out′ r → Serves (ls ++ ms) p (out ++ out′) r
-serves-append [] ms p q r out out′ s t = rw (s .0, ← s .1) t
-serves-append (l ∷ ls) ms p q r out out′ (pick, (a, (rest, (e, s)))) t =
-    let v = serve l pick p in
-    (pick, (a, (rest ++ out′, (ap (λ o. o ++ out′) e ∙ append-assoc (v .bytes) rest out′, serves-append ls ms (v .plant) q r rest out′ s t))))
+serves-append ls ms p q r out out′ s t =
+    rw (ap (λ (v : Served). v .bytes) t, ap (λ (v : Served). v .plant) t, ap (λ (v : Served). v .bytes) s, ap (λ (v : Served). v .plant) s) (sym (served-append ls ms p))
 
-pub serves-short : (ls : List (List ℕ)) (p q : Plant) (out : List ℕ) → Serves (map (take lineLimit) ls) p out q → Serves ls p out q
-serves-short [] p q out s = s
-serves-short (l ∷ ls) p q out (pick, (a, (rest, (e, s)))) =
-    let c = short-serve l pick p in
-    (pick, (a, (rest, (e ∙ ap (λ v. v .bytes ++ rest) c, serves-short ls (serve l pick p .plant) q rest (rw c at s)))))
-
-pub serves-cut : (ls : List (List ℕ)) (p q : Plant) (out : List ℕ) → Serves ls p out q → Serves (map (take lineLimit) ls) p out q
-serves-cut [] p q out s = s
-serves-cut (l ∷ ls) p q out (pick, (a, (rest, (e, s)))) =
-    let c = sym (short-serve l pick p) in
-    (pick, (a, (rest, (e ∙ ap (λ v. v .bytes ++ rest) c, serves-cut ls (serve (take lineLimit l) pick p .plant) q rest (rw c at s)))))
+-- a line is served by its first bytes
+pub served-short : (ls : List (List ℕ)) (p : Plant) → served (map (take lineLimit) ls) p ≡ served ls p
+served-short [] p = refl
+served-short (l ∷ ls) p = rw (short-serve l p, served-short ls (serve l p .plant)) refl

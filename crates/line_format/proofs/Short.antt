@@ -11,10 +11,8 @@ use lib.Seq.{take-nil, take-take}
 use lib.Dec.{ltb}
 use borrow.Author.Tests.{le-ltb, lt-ltb, ltb-false, ltb-true}
 -- the worked lines come first: a definition that is off shows there before it shows in a law
-use Rattle.line_format.proofs.Worked.{worked-lines}
 use Rattle.rules.specs.Lists.{caseOf}
 use Rattle.rules.specs.Tables.{Plant}
-use Rattle.rules.specs.Calls.{Pick}
 use Rattle.rules.proofs.Laws.{byCase}
 use Rattle.line_format.specs.Bytes.{callWidth, lineLimit, mostNumbers, numberWidth}
 use Rattle.line_format.specs.Lines.{Name, abandons, advances, applies, arity, begins, callIn, changes, commits, cuts, deletes, loads, maps, nameNumber, names, numbersIn, reads, reports, said, stores, sweeps, takes, withCall}
@@ -74,6 +72,6 @@ short l =
     ∙ ap (withCall (callIn l)) (drop-short callWidth (mostNumbers * numberWidth + 1) l)
     ∙ short-rest (callIn l) (drop callWidth l)
 
-pub short-serve : (l : List ℕ) (pick : Pick) (p : Plant) → serve (take lineLimit l) pick p ≡ serve l pick p
+pub short-serve : (l : List ℕ) (p : Plant) → serve (take lineLimit l) p ≡ serve l p
 unfolding serve
-short-serve l pick p = ap (λ s. performed s pick p) (short l)
+short-serve l p = ap (λ s. performed s p) (short l)

@@ -11,7 +11,7 @@ use Rattle.rules.specs.Refusals.{Refusal, first}
 use Rattle.rules.specs.Values.{below, natOf, showAll}
 use Rattle.rules.specs.Reading.{seen}
 use Rattle.rules.specs.Tables.{Plant}
-use Rattle.rules.specs.Calls.{Pick, Call, Load, Map, Begin, Read, Change, Commit, Abandon, Advance, Take, Apply, Delete, Cut, Sweep, Store, Report}
+use Rattle.rules.specs.Calls.{Call, Load, Map, Begin, Read, Change, Commit, Abandon, Advance, Take, Apply, Delete, Cut, Sweep, Store, Report}
 use Rattle.rules.specs.Conditions.{conditions, own}
 use Rattle.rules.specs.Step.{accepted, settle, step}
 use Rattle.rules.proofs.Laws.{byCase}
@@ -19,7 +19,7 @@ use Rattle.rules.proofs.Words.{length-showAll}
 use Rattle.line_format.specs.Lines.{answerLine}
 use Rattle.line_format.specs.Serving.{replied}
 
-module _ (lent words : List ℤ) (e : length lent ≡ length words) (pick : Pick) (p : Plant) where
+module _ (lent words : List ℤ) (e : length lent ≡ length words) (p : Plant) where
   -- only a read asks for them, and for their number alone
   same-conditions : (c : Call) → conditions c lent p ≡ conditions c words p
   unfolding conditions
@@ -43,7 +43,7 @@ module _ (lent words : List ℤ) (e : length lent ≡ length words) (pick : Pick
   shown : (s k : ℤ) (ws : List ℤ) → take (wordsPerField * length (p .keys (natOf k))) (showAll (map (seen p (own s p)) (p .keys (natOf k))) ++ drop (wordsPerField * length (p .keys (natOf k))) ws) ≡ showAll (map (seen p (own s p)) (p .keys (natOf k)))
   shown s k ws = take-at _ _ _ (length-showAll _ (p .keys (natOf k)))
 
-  same-accepted : (c : Call) → replied c p (accepted c lent pick p) ≡ replied c p (accepted c words pick p)
+  same-accepted : (c : Call) → replied c p (accepted c lent p) ≡ replied c p (accepted c words p)
   unfolding accepted
   same-accepted (Load d f k v) = refl
   same-accepted (Map k n m) = refl
@@ -61,11 +61,11 @@ module _ (lent words : List ℤ) (e : length lent ≡ length words) (pick : Pick
   same-accepted (Store n) = refl
   same-accepted (Report s) = refl
 
-  same-settled : (c : Call) (o : Option Refusal) → replied c p (settle o c lent pick p) ≡ replied c p (settle o c words pick p)
+  same-settled : (c : Call) (o : Option Refusal) → replied c p (settle o c lent p) ≡ replied c p (settle o c words p)
   unfolding answerLine
   same-settled c none = same-accepted c
   same-settled c (some r) = refl
 
-  pub words-unseen : (c : Call) → replied c p (step c lent pick p) ≡ replied c p (step c words pick p)
+  pub words-unseen : (c : Call) → replied c p (step c lent p) ≡ replied c p (step c words p)
   unfolding step
-  words-unseen c = same-settled c (first (conditions c lent p)) ∙ ap (λ o. replied c p (settle (first o) c words pick p)) (same-conditions c)
+  words-unseen c = same-settled c (first (conditions c lent p)) ∙ ap (λ o. replied c p (settle (first o) c words p)) (same-conditions c)

@@ -10,15 +10,16 @@ use lib.IntN.{ℤ}
 use Rattle.rules.specs.Refusals.{Refusal, refusalNumber, wasDoomed, exclusiveElsewhere}
 use Rattle.rules.specs.Values.{natOf}
 use Rattle.rules.specs.Tables.{Plant, setup}
-use Rattle.rules.specs.Calls.{Call, Read, Commit, markNumber, Answer, refused, fine, Pick}
+use Rattle.rules.specs.Calls.{Call, Read, Commit, markNumber, Answer, refused, fine}
 use Rattle.rules.specs.Effects.{mark}
-use Rattle.rules.specs.Step.{sessionOf, ending, Allowed}
-use Rattle.rules.specs.History.{World, turn, initial}
+use Rattle.rules.specs.Step.{sessionOf, ending}
+use Rattle.rules.specs.History.{World, turns, initial}
 use Rattle.rules.specs.Claims.{ShownBy}
 use Rattle.line_format.specs.Bytes.{callWidth}
 use Rattle.line_format.specs.Columns.{naturalIn}
 use Rattle.line_format.specs.Lines.{Said, says, faulty, said, answerLine}
-use Rattle.line_format.specs.Serving.{lentWords, ended, serve, linesOf, Serves}
+use Rattle.line_format.specs.Serving.{ended, serve, served, linesOf}
+use Rattle.line_format.specs.Demand3.{turnsOfLine}
 
 -- ── what a printed line tells ──
 -- the number in its first columns: 0, or the refusal's
@@ -64,18 +65,16 @@ pub record LineMeets (x : Said) (w : World) (o : List ℕ) (q : Plant) : Type 0 
   pub commits : (s : ℤ) → x ≡ says (Commit s) → LeavesStore (w .plant) q
 
 -- ── lines ──
--- the world that a line leaves, for the choice made in it
-abbrev pub lineLeaves : Said → Pick → World → World
-lineLeaves (says c) pick w = turn (record { call = c; lent = lentWords; pick = pick }) w
-lineLeaves (faulty r) pick w = w
+-- the world that a line leaves
+abbrev pub lineLeaves : Said → World → World
+lineLeaves x w = turns (turnsOfLine x) w
 
 -- lines, and as many printed
 abbrev pub Meets : List (List ℕ) → World → List (List ℕ) → Plant → Type 0
 Meets [] w os q = (os ≡ []) × (q ≡ w .plant)
 Meets (l ∷ ls) w [] q = ⊥
 Meets (l ∷ ls) w (o ∷ os) q =
-    (pick : Pick) × (Allowed pick (w .plant) × ((ended o ≡ (serve l pick (w .plant)) .bytes)
-    × (LineMeets (said l) w o (lineLeaves (said l) pick w .plant) × Meets ls (lineLeaves (said l) pick w) os q)))
+    (ended o ≡ (serve l (w .plant)) .bytes) × (LineMeets (said l) w o (lineLeaves (said l) w .plant) × Meets ls (lineLeaves (said l) w) os q)
 
 abbrev pub LinesMeet : Type 0
-LinesMeet = (ls : List (List ℕ)) (out : List ℕ) (q : Plant) → Serves ls setup out q → Meets ls initial (linesOf out) q
+LinesMeet = (ls : List (List ℕ)) → Meets ls initial (linesOf ((served ls setup) .bytes)) ((served ls setup) .plant)

@@ -9,8 +9,8 @@ use lib.IntN.{pos, ℤ}
 use Rattle.rules.specs.Limits.{keyCount, placeLimit, wordsPerField}
 use Rattle.rules.specs.Values.{below, natOf, Place}
 use Rattle.rules.specs.Tables.{Plant}
-use Rattle.rules.specs.Calls.{Call, Load, Map, Begin, Read, Change, Commit, Abandon, Advance, Take, Apply, Delete, Cut, Sweep, Store, Report, refused, Result, Pick}
-use Rattle.rules.specs.Step.{step, Allowed}
+use Rattle.rules.specs.Calls.{Call, Load, Map, Begin, Read, Change, Commit, Abandon, Advance, Take, Apply, Delete, Cut, Sweep, Store, Report, refused, Result}
+use Rattle.rules.specs.Step.{step}
 use Rattle.line_format.specs.Bytes.{newline}
 use Rattle.line_format.specs.Lines.{Said, says, faulty, said, answerLine}
 
@@ -48,12 +48,12 @@ ended l = l ++ (newline ∷ [])
 abbrev pub replied : Call → Plant → Result → Served
 replied c p r = record { bytes = ended (answerLine (r .answer) (take (wordsPerField * placesShown c (p .keys)) (r .words))); plant = r .plant }
 
-abbrev pub performed : Said → Pick → Plant → Served
-performed (says c) pick p = replied c p (step c lentWords pick p)
-performed (faulty r) pick p = record { bytes = ended (answerLine (refused r) []); plant = p }
+abbrev pub performed : Said → Plant → Served
+performed (says c) p = replied c p (step c lentWords p)
+performed (faulty r) p = record { bytes = ended (answerLine (refused r) []); plant = p }
 
-unfoldable pub serve : List ℕ → Pick → Plant → Served
-serve l pick p = performed (said l) pick p
+unfoldable pub serve : List ℕ → Plant → Served
+serve l p = performed (said l) p
 
 -- ── an input ──
 abbrev pub begun : ℕ → List (List ℕ) → List (List ℕ)
@@ -65,8 +65,11 @@ abbrev pub linesOf : List ℕ → List (List ℕ)
 linesOf [] = []
 linesOf (b ∷ l) = cond (eqb b newline) ([] ∷ linesOf l) (begun b (linesOf l))
 
--- lines served one after the other, each with an allowed choice at the plant that it meets
+-- lines served one after the other
+abbrev pub served : List (List ℕ) → Plant → Served
+served [] p = record { bytes = []; plant = p }
+served (l ∷ ls) p = record { bytes = (serve l p) .bytes ++ (served ls ((serve l p) .plant)) .bytes; plant = (served ls ((serve l p) .plant)) .plant }
+
+-- out is what they answer, and q what they leave
 abbrev pub Serves : List (List ℕ) → Plant → List ℕ → Plant → Type 0
-Serves [] p out q = (out ≡ []) × (q ≡ p)
-Serves (l ∷ ls) p out q =
-    (pick : Pick) × (Allowed pick p × ((rest : List ℕ) × ((out ≡ (serve l pick p) .bytes ++ rest) × Serves ls ((serve l pick p) .plant) rest q)))
+Serves ls p out q = record { bytes = out; plant = q } ≡ served ls p

@@ -16,7 +16,7 @@ use Rattle.rules.specs.Step.{accepted, step}
 use Rattle.line_format.specs.Bytes.{lineLimit}
 use Rattle.line_format.specs.Columns.{naturalIn, integerIn, column}
 use Rattle.line_format.specs.Lines.{says, faulty, said, answerLine}
-use Rattle.line_format.specs.Serving.{serve, linesOf}
+use Rattle.line_format.specs.Serving.{serve, served, linesOf}
 use Rattle.line_format.specs.Feeding.{complete, unended, lastLine}
 
 -- ── lines by their bytes ──
@@ -37,10 +37,9 @@ abbrev pub rows : List (List ℕ) → List ℕ
 rows [] = []
 rows (l ∷ ls) = l ++ (10 ∷ []) ++ rows ls
 
--- what lines print one after the other; no choice is made
+-- what lines print one after the other
 abbrev pub prints : List (List ℕ) → Plant → List ℕ
-prints [] p = []
-prints (l ∷ ls) p = (serve l (record { swept = [] }) p) .bytes ++ prints ls ((serve l (record { swept = [] }) p) .plant)
+prints ls p = (served ls p) .bytes
 
 -- a line without its last byte
 abbrev pub cutLast : List ℕ → List ℕ

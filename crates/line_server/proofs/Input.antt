@@ -1,9 +1,12 @@
 -- However an input is cut into pieces, its answers are those of its lines, demands 1 and 2 hold of each, and demand 3 after it.
-use mathlib.Core.Path.{_≡_, subst}
+use mathlib.Core.Path.{_≡_, subst, sym}
 use mathlib.Core.Bool.{true}
-use mathlib.Core.List.{List, [], _++_, _∷_}
+use mathlib.Core.List.{List, [], _∷_}
 use lib.ListN.{take}
-use Rattle.line_format.specs.Serving.{linesOf}
+use Rattle.rules.specs.History.{initial}
+use Rattle.line_format.specs.Serving.{Served, linesOf}
+use Rattle.line_format.specs.Demand3.{Made}
+use Rattle.line_format.specs.Demands.{Meets}
 use Rattle.line_format.specs.Feeding.{Feeds}
 use Rattle.line_format.proofs.Feeding.{feeds-append, feeds-whole}
 use Rattle.line_format.proofs.Demand3.{lines-hold}
@@ -40,7 +43,11 @@ input-served s start none k xs t out r h =
     (h (w .keeps) .serves)
 
 pub input-meets : InputMeets
-input-meets s start none k xs t out r h = lines-meet (linesOf (input xs)) (output xs ++ take (r .wrote) out) (viewPlant (r .plant)) (input-served s start none k xs t out r h)
+input-meets s start none k xs t out r h =
+    let e = input-served s start none k xs t out r h in
+    subst (λ (v : Served). Meets (linesOf (input xs)) initial (linesOf (v .bytes)) (v .plant)) (sym e) (lines-meet (linesOf (input xs)))
 
 pub input-holds : InputHolds
-input-holds s start none k xs t out r h = lines-hold _ _ _ (input-served s start none k xs t out r h)
+input-holds s start none k xs t out r h =
+    let e = input-served s start none k xs t out r h in
+    subst (λ (v : Served). Made (linesOf (input xs)) (v .plant)) (sym e) (lines-hold (linesOf (input xs)))

@@ -1,5 +1,5 @@
 -- The lines of a piece joined to the format: what is answered to them is what the format serves, whether their calls are run as a list, or a line says none.
-use Prim.Native.Nat.{ℕ, zero, suc, _≤_, _<_, _+_, _-_, _*_}
+use Prim.Native.Nat.{ℕ, _≤_, _<_, _+_, _-_, _*_}
 use native.Mathlib.Omega.{arith}
 use mathlib.Core.Path.{_≡_, refl, sym, _∙_, ap, subst}
 use mathlib.Core.Bool.{true, false}
@@ -7,7 +7,6 @@ use mathlib.Core.List.{List, [], _++_, _∷_, append-assoc, append-nil}
 use lib.IntN.{ℤ}
 use lib.ListN.{length, take, drop, length-append, length-drop, take-append-drop}
 use lib.Seq.{length-take-le, take-all, take-at, drop-at}
-use borrow.Rule.Slice.PartMut.{putMid}
 use Rattle.line_format.specs.Bytes.{newline, lineLimit}
 use Rattle.line_format.specs.Lines.{said, says, faulty}
 use Rattle.line_format.specs.Lines as L
@@ -45,10 +44,8 @@ Begun u = (hasEnd u ≡ false) × (length u ≤ lineLimit)
 line-fed : (u l bs : List ℕ) (x : L.Said) (p q : Plant) → hasEnd u ≡ false → hasEnd l ≡ false → said (u ++ l) ≡ x → Answered x p bs q → Feeds u (viewPlant p) (l ++ (newline ∷ [])) bs [] (viewPlant q)
 unfolding serve
 line-fed u l bs x p q fu fl es a =
-    let bytes : bs ≡ performed (said (u ++ l)) (a .pick) (viewPlant p) .bytes ++ [] = a .prints ∙ ap (λ y. performed y (a .pick) (viewPlant p) .bytes) (sym es) ∙ sym (append-nil (performed (said (u ++ l)) (a .pick) (viewPlant p) .bytes)) in
-    let plant : viewPlant q ≡ performed (said (u ++ l)) (a .pick) (viewPlant p) .plant = a .leaves ∙ ap (λ y. performed y (a .pick) (viewPlant p) .plant) (sym es) in
     record {
-      serves = subst (λ ls. Serves ls (viewPlant p) bs (viewPlant q)) (sym (end-complete u l fu fl [])) (a .pick, (a .allowed, ([], (bytes, (refl, plant)))));
+      serves = rw (end-complete u l fu fl [], a .prints, a .leaves, es, append-nil (performed x (viewPlant p) .bytes)) refl;
       keeps = sym (ap (take lineLimit) (end-unended u l fu fl []));
     }
 
@@ -56,7 +53,7 @@ line-fed u l bs x p q fu fl es a =
 rest-fed : (u l v : List ℕ) (p : Plant) → Begun u → hasEnd l ≡ false → v ≡ take lineLimit (u ++ l) → Feeds u (viewPlant p) l [] v (viewPlant p)
 rest-fed u l v p b free e =
     record {
-      serves = subst (λ ls. Serves ls (viewPlant p) [] (viewPlant p)) (sym (more-complete u l (b .0) free)) (refl, refl);
+      serves = subst (λ ls. Serves ls (viewPlant p) [] (viewPlant p)) (sym (more-complete u l (b .0) free)) refl;
       keeps = e ∙ ap (take lineLimit) (sym (more-unended u l (b .0) free));
     }
 

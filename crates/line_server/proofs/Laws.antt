@@ -96,7 +96,7 @@ nothing-fed s k =
     let v = viewPending (s .pending) in
     let p = viewPlant (s .plant) in
     record {
-      serves = subst (λ ls. Serves ls p [] p) (sym (ap complete (append-nil v) ∙ complete-none v (o .free))) (refl, refl);
+      serves = subst (λ ls. Serves ls p [] p) (sym (ap complete (append-nil v) ∙ complete-none v (o .free))) refl;
       keeps = sym (ap (λ l. take lineLimit (unended l)) (append-nil v) ∙ ap (take lineLimit) (unended-all v (o .free)) ∙ take-all lineLimit v (o .short));
     }
 
@@ -160,7 +160,7 @@ module _ (s : Server) (e : Bool) (ee : e ≡ isEmpty (viewPending (s .pending)))
   no-last t lent r k =
       let none : viewPending (s .pending) ≡ [] = nil-is (viewPending (s .pending)) (sym ee ∙ t) in
       record {
-        serves = rw (← ee, t) (refl, refl);
+        serves = rw (← ee, t) refl;
         ends = none;
         keeps = unused s k;
       }

@@ -1,5 +1,5 @@
 -- However an input is cut into pieces, its answers are those of its lines, demands 1 and 2 hold of each line, demand 3 of the plant left
--- behind, and its cached keys stand in the order of the reads. The proof is proofs/Input, from the promises of `feed` and `finish` and the rules' theorem alone.
+-- behind, and its cached keys and rows stand in their order. The proof is proofs/Input, from the promises of `feed` and `finish` and the rules' theorem alone.
 use Prim.Native.Nat.{ℕ}
 use mathlib.Core.Path.{_≡_}
 use mathlib.Core.Bool.{true}
@@ -53,6 +53,6 @@ InputServed = OfInput (λ ls out q. Serves ls setup out q)
 abbrev pub InputMeets : Type 0
 InputMeets = OfInput (λ ls out q. Meets ls initial (linesOf out) q)
 
--- demand 3, and the order of the cached keys
+-- demand 3, and the order of the cached keys and of the rows
 abbrev pub InputHolds : Type 0
-InputHolds = OfInput Made
+InputHolds = OfInput (λ ls out q. Made ls q)

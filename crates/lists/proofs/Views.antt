@@ -184,10 +184,10 @@ pub either : {A : Type 0} (t : Bool) (x : A) → x ≡ cond t x x
 either true x = refl
 either false x = refl
 
--- one entry of it: kept unless the test t picks it
+-- one entry of it: kept unless the test t meets it
 module _ {A : Type 0} (p t : Bool) (a : t ≡ p) (x y : A) where
-  pub unless-picked : t ≡ true → y ≡ cond (not p) x y
-  unless-picked e = rw (← a, e)
+  pub unless-met : t ≡ true → y ≡ cond (not p) x y
+  unless-met e = rw (← a, e)
 
   pub unless-kept : {r : A} → t ≡ false → r ≡ x → r ≡ cond (not p) x y
   unless-kept e q = q ∙ rw (← a, e)

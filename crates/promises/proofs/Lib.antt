@@ -1,5 +1,5 @@
 -- Laws that the proofs of the calls use.
-pub mod Chosen
+pub mod Keeping
 pub mod Telling
 pub mod Leaving
 pub mod Numbers

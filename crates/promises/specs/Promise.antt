@@ -4,25 +4,16 @@ use mathlib.Core.Path.{_≡_}
 use mathlib.Core.Bool.{true, false}
 use mathlib.Core.List.{List}
 use lib.IntN.{ℤ}
-use lib.ListN.{take}
-use Rattle.rules.specs.Lists.{keep}
-use Rattle.rules.specs.Limits.{sweepLimit}
-use Rattle.rules.specs.Tables as M
-use Rattle.rules.specs.Calls.{Call, Pick, Result}
+use Rattle.rules.specs.Calls.{Call, Result}
 use Rattle.rules.specs.Step.{step}
 use Rattle.plant.specs.View.{viewPlant, keptPlant}
 use Rattle.plant.specs.declared.Plant.{Plant}
 use Rattle.answers.specs.View.{viewAnswer, isRefused}
 use Rattle.answers.specs.declared.Answer.{Answer}
 
--- what the code chooses where the paper leaves it free: a sweep takes the first rows it may.
--- `Allowed` holds of it (`proofs/Chosen`), and the entry over all calls promises no more than that
-unfoldable pub chosen : M.Plant → Pick
-chosen p = record { swept = take sweepLimit (keep (M.removable p) (p .rows)) }
-
 -- the rules' result of a call
 abbrev pub result : Call → List ℤ → Plant → Result
-result c lent p = step c lent (chosen (viewPlant p)) (viewPlant p)
+result c lent p = step c lent (viewPlant p)
 
 abbrev pub Answers : Call → List ℤ → Plant → Answer → Type 0
 Answers c lent p a = keptPlant p ≡ true → viewAnswer a ≡ result c lent p .answer
@@ -35,6 +26,6 @@ Leaves c p a q = keptPlant p ≡ true → (lent : List ℤ) → viewAnswer a ≡
 abbrev pub Performs : Call → Plant → Plant → Type 0
 Performs c p q = keptPlant p ≡ true → (lent : List ℤ) → isRefused (result c lent p .answer) ≡ false → viewPlant q ≡ result c lent p .plant
 
--- it keeps the tables' rules. This follows from `Leaves` and from that the plant's form is kept (`proofs/Chosen`, `leaves-keep`)
+-- it keeps the tables' rules. This follows from `Leaves` and from that the plant's form is kept (`proofs/Keeping`, `leaves-keep`)
 abbrev pub Keeps : Call → Plant → Answer → Plant → Type 0
 Keeps c p a q = keptPlant p ≡ true → (lent : List ℤ) → viewAnswer a ≡ result c lent p .answer → keptPlant q ≡ true

@@ -1,4 +1,4 @@
-// The store's rows of applied sessions, all of them or those that a sweep picks.
+// The store's rows of applied sessions, all of them or those that a sweep removes.
 ghost use mathlib.Core.Path.{_≡_};
 ghost use mathlib.Core.Bool.{true, not, cond};
 ghost use mathlib.Core.List.{[]};
@@ -77,19 +77,19 @@ impl Rows {
         n
     }
 
-    fn push_unless(self, n: u32, picks: Rows) -> Self
-        ensures shows { λ r. ⌜ viewRows r ≡ cond (not (has n (viewRows picks))) (pushed rowLimit (viewRows self) n) (viewRows self) ⌝ }
+    fn push_unless(self, n: u32, gone: Rows) -> Self
+        ensures shows { λ r. ⌜ viewRows r ≡ cond (not (has n (viewRows gone))) (pushed rowLimit (viewRows self) n) (viewRows self) ⌝ }
         ensures form { λ r. ⌜ (rowsForm self ≡ true → rowsForm r ≡ true) ⌝ }
     {
-        if picks.has(n) {
+        if gone.has(n) {
             return self;
         }
         self.push(n)
     }
 
-    // The rows that are not picked.
-    pub fn without(self, picks: Rows) -> Self
-        ensures shows { λ r. ⌜ viewRows r ≡ keep (λ n. not (has n (viewRows picks))) (viewRows self) ⌝ }
+    // The rows that are not among these.
+    pub fn without(self, gone: Rows) -> Self
+        ensures shows { λ r. ⌜ viewRows r ≡ keep (λ n. not (has n (viewRows gone))) (viewRows self) ⌝ }
         ensures form { λ r. ⌜ rowsForm r ≡ true ⌝ }
     {
         let count = self.count as usize;
@@ -100,7 +100,7 @@ impl Rows {
                 return kept;
             }
             let n = self.numbers[i];
-            kept = kept.push_unless(n, picks);
+            kept = kept.push_unless(n, gone);
             i += 1;
         }
         kept

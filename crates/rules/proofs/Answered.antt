@@ -16,7 +16,7 @@ use Rattle.rules.specs.Values.{natOf, isNatural}
 use Rattle.rules.specs.Changes.{Update, touches}
 use Rattle.rules.specs.Tables.{isHeld, doomedSession, Slot, hasSlot, session, freed, Cached, isCached, Batch, numbersOf, isBuffered, oldest, isOldest, batchOf, unbuffer, Hand, empty, holds, full, replied, handed, Queue, leased, Plant, withHand, withQueue}
 use Rattle.rules.specs.Reading.{current}
-use Rattle.rules.specs.Calls.{Fate, arrives, lost, unreached, fateNumber, Begin, Apply, Report, fromCache, cachedNow, ownChange, Reply, noWord, done, doneBefore, replyNumber, Pick}
+use Rattle.rules.specs.Calls.{Fate, arrives, lost, unreached, fateNumber, Begin, Apply, Report, fromCache, cachedNow, ownChange, Reply, noWord, done, doneBefore, replyNumber}
 use Rattle.rules.specs.Conditions.{noRoom, conditions}
 use Rattle.rules.specs.Effects.{begun, mark, evicted, cacheBy, cacheAfter, withExclusive, withLast, withChange, grant, changed, bufferedAfter, committed, abandoned, taken, carried, applied, replyTo, deleted, cut}
 use Rattle.rules.specs.Step.{accepted}
@@ -131,7 +131,7 @@ oldest-is n [] e = absurd (true≢false (sym e))
 oldest-is n (b ∷ k) e = (b, k, refl, sym (eqb-true n (b .number) e), rw e)
 
 -- a session without a row is carried
-carries : (n : ℕ) (p q : Plant) → q .store ≡ (carried n p) .store → q .rows ≡ (carried n p) .rows → has n (p .rows) ≡ false
+pub carries : (n : ℕ) (p q : Plant) → q .store ≡ (carried n p) .store → q .rows ≡ (carried n p) .rows → has n (p .rows) ≡ false
     → isOldest n (p .buffer) ≡ true → length (p .rows) < rowLimit → Carries n p q
 unfolding carried
 carries n p q s r e o lt =
@@ -277,6 +277,6 @@ unfolding deleted
 deletes w p h t = deletes-oldest (held w p) (p .rows) (p .buffer) h t
 
 -- ── report ──
-pub report-leaves : (s : ℤ) (lent : List ℤ) (pick : Pick) (p : Plant) → (accepted (Report s) lent pick p) .plant ≡ p
+pub report-leaves : (s : ℤ) (lent : List ℤ) (p : Plant) → (accepted (Report s) lent p) .plant ≡ p
 unfolding accepted
-report-leaves s lent pick p = refl
+report-leaves s lent p = refl

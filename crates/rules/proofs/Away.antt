@@ -170,13 +170,13 @@ pub store-away : StoreAway
 unfolding conditions accepted
 store-away p k n =
     record {
-      read = λ s ky lent pick ns h.
-          let m = fine-none (Read s ky) lent pick p ns h in
-          ap (λ o. o .words) (step-fine (Read s ky) lent pick p m)
+      read = λ s ky lent ns h.
+          let m = fine-none (Read s ky) lent p ns h in
+          ap (λ o. o .words) (step-fine (Read s ky) lent p m)
           ∙ ap (λ fs. showAll fs ++ drop (wordsPerField * length (p .keys (natOf ky))) lent)
           (seen-all p (own s p) (kept-iff p .0 k) n (p .keys (natOf ky)) (key-places p (natOf ky) (kept-iff p .0 k) (below-is ky keyCount (not-false _ (not-met _ _ (m .0))))) (not-met _ _ (m .1 .1 .1 .1 .1 .1 .0)));
-      change = λ s d f kd v lent pick ns h u.
-          let m = fine-none (Change s d f kd v) lent pick p ns h in
+      change = λ s d f kd v lent ns h u.
+          let m = fine-none (Change s d f kd v) lent p ns h in
           away-known p (own s p) (placeOf d f) n
           (not-false (known p (own s p) (placeOf d f)) (ap (λ b. not b && not (known p (own s p) (placeOf d f))) (sym u) ∙ not-met _ _ (m .1 .1 .1 .1 .1 .0)));
     }

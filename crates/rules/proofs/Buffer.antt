@@ -60,6 +60,9 @@ has-snoc-false n m rows h e = rw (has-append n rows (m ∷ []), h, e)
 pub has-snoc-true : (n m : ℕ) (rows : List ℕ) → has n rows ≡ true → has n (rows ++ (m ∷ [])) ≡ true
 has-snoc-true n m rows h = rw (has-append n rows (m ∷ []), h)
 
+pub has-left : (n : ℕ) (a b : List ℕ) → has n a ≡ true → has n (a ++ b) ≡ true
+has-left n a b e = rw (has-append n a b, e)
+
 pub has-last : (n : ℕ) (rows : List ℕ) → has n (rows ++ (n ∷ [])) ≡ true
 has-last n rows = byCase (has n rows) (λ e. has-snoc-true n n rows e) (λ e. rw (has-append n rows (n ∷ []), e, self n))
 
@@ -198,9 +201,9 @@ pub and-false : (a b : Bool) → b ≡ false → a && b ≡ false
 and-false true b e = e
 and-false false b e = refl
 
-pub not-held : (p : Plant) (n : ℕ) → (isBuffered n (p .buffer) ≡ true) ⊎ (anyHand (p .hands) n ≡ true) → has n (p .rows) && removable p n ≡ false
-not-held p n (inl e) = and-false (has n (p .rows)) (removable p n) (rw e)
-not-held p n (inr e) = and-false (has n (p .rows)) (removable p n) (rw e (and-false (not (isBuffered n (p .buffer))) false refl))
+pub not-held : (p : Plant) (n : ℕ) → (isBuffered n (p .buffer) ≡ true) ⊎ (anyHand (p .hands) n ≡ true) → removable p n ≡ false
+not-held p n (inl e) = rw e
+not-held p n (inr e) = rw e (and-false (not (isBuffered n (p .buffer))) false refl)
 
 -- ── commit ──
 pub noRows-last : (rows : List ℕ) (l : List Batch) (b : Batch) → has (b .number) rows ≡ false → NoRows rows l → NoRows rows (l ++ (b ∷ []))

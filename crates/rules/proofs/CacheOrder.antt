@@ -7,18 +7,18 @@ use mathlib.Core.List.{List, [], _++_, _∷_, map-append}
 use lib.ListN.{length}
 use lib.Dec.{eqb, leb}
 use lib.IntN.{pos, ℤ}
-use Rattle.rules.specs.Lists.{any, dropAt, headOrZero, sameCase, InOrder}
+use Rattle.rules.specs.Lists.{any, dropAt, headOrZero, InOrder}
 use Rattle.rules.specs.Limits.{cacheLimit}
 use Rattle.rules.specs.Refusals.{Refusal, endsSession, first}
 use Rattle.rules.specs.Values.{natOf, Place}
 use Rattle.rules.specs.Tables.{Slot, session, Cached, keysOf, Plant, setup}
-use Rattle.rules.specs.Calls.{fateOf, Call, Load, Map, Begin, Read, Change, Commit, Abandon, Advance, Take, Apply, Delete, Cut, Sweep, Store, Report, callNumber, Mark, fromCache, cachedNow, ownChange, markNumber, fine, Result, Pick}
+use Rattle.rules.specs.Calls.{fateOf, Call, Load, Map, Begin, Read, Change, Commit, Abandon, Advance, Take, Apply, Delete, Cut, Sweep, Store, Report, Mark, fromCache, cachedNow, ownChange, markNumber, fine, Result}
 use Rattle.rules.specs.Conditions.{conditions}
 use Rattle.rules.specs.Effects.{loaded, mapped, begun, touched, mark, evicted, cacheAfter, afterRead, changed, committed, abandoned, lapses, loses, isLost, inDocuments, stays, advanced, taken, deleted, cut, swept}
 use Rattle.rules.specs.Step.{accepted, sessionOf, ending, settle, step}
-use Rattle.rules.specs.History.{Turn, World, turn, turns, AllAllowed, initial, exchanges}
+use Rattle.rules.specs.History.{Turn, World, turn, turns, initial, leftBy, exchanges}
 use Rattle.rules.specs.Answers.{Marks, CachesLast}
-use Rattle.rules.specs.CacheOrder.{orderAfter, orderAfterAnswer, byReads, readOrder, leftBy, InReadOrder, GivesWay, OldestGivesWay, CommitCachesNone, ClockLeavesOrder, OnlySweepChooses}
+use Rattle.rules.specs.CacheOrder.{orderAfter, orderAfterAnswer, byReads, readOrder, InReadOrder, GivesWay, OldestGivesWay, CommitCachesNone, ClockLeavesOrder}
 use Rattle.rules.proofs.Laws.{byCase}
 use Rattle.rules.proofs.Tests.{Once, keep-all}
 use Rattle.rules.proofs.Steps.{step-fine, given, fine-none}
@@ -86,61 +86,61 @@ lapse-order p n k = in-order-keep (λ c. c .key) (stays (isLost (p .clock + n) (
 abbrev ordered : Call → List ℕ → Result → Type 0
 ordered c l r = InOrder (keysOf ((r .plant) .cache)) (orderAfterAnswer c (r .answer) l)
 
-keys-accepted : (c : Call) (lent : List ℤ) (pick : Pick) (p : Plant) (l : List ℕ) → Kept p → InOrder (keysOf (p .cache)) l
-    → ordered c l (accepted c lent pick p)
+keys-accepted : (c : Call) (lent : List ℤ) (p : Plant) (l : List ℕ) → Kept p → InOrder (keysOf (p .cache)) l
+    → ordered c l (accepted c lent p)
 unfolding accepted loaded mapped begun changed committed abandoned advanced taken deleted cut swept
-keys-accepted (Load d f kd v) lent pick p l k o = o
-keys-accepted (Map ky n qs) lent pick p l k o = o
-keys-accepted Begin lent pick p l k o = o
-keys-accepted (Read s ky) lent pick p l k o = read-order p (natOf s) (natOf ky) l k o
-keys-accepted (Change s d f kd v) lent pick p l k o = o
-keys-accepted (Commit s) lent pick p l k o = subst (λ z. InOrder z l) (sym (same-keys (p .keys) _ (p .cache))) o
-keys-accepted (Abandon s) lent pick p l k o = o
-keys-accepted (Advance n) lent pick p l k o = in-order-trans (keysOf ((advanced (natOf n) p) .cache)) (keysOf (p .cache)) l (lapse-order p (natOf n) k) o
-keys-accepted (Take w) lent pick p l k o = o
-keys-accepted (Apply w fate) lent pick p l k o =
+keys-accepted (Load d f kd v) lent p l k o = o
+keys-accepted (Map ky n qs) lent p l k o = o
+keys-accepted Begin lent p l k o = o
+keys-accepted (Read s ky) lent p l k o = read-order p (natOf s) (natOf ky) l k o
+keys-accepted (Change s d f kd v) lent p l k o = o
+keys-accepted (Commit s) lent p l k o = subst (λ z. InOrder z l) (sym (same-keys (p .keys) _ (p .cache))) o
+keys-accepted (Abandon s) lent p l k o = o
+keys-accepted (Advance n) lent p l k o = in-order-trans (keysOf ((advanced (natOf n) p) .cache)) (keysOf (p .cache)) l (lapse-order p (natOf n) k) o
+keys-accepted (Take w) lent p l k o = o
+keys-accepted (Apply w fate) lent p l k o =
     subst (λ (q : Plant). InOrder (keysOf (q .cache)) l) (sym (applied-only (fateOf fate) (natOf w) p)) o
-keys-accepted (Delete w) lent pick p l k o = o
-keys-accepted (Cut w) lent pick p l k o = o
-keys-accepted Sweep lent pick p l k o = o
-keys-accepted (Store n) lent pick p l k o = o
-keys-accepted (Report s) lent pick p l k o = o
+keys-accepted (Delete w) lent p l k o = o
+keys-accepted (Cut w) lent p l k o = o
+keys-accepted Sweep lent p l k o = o
+keys-accepted (Store n) lent p l k o = o
+keys-accepted (Report s) lent p l k o = o
 
 -- a refusal leaves the cached keys
-refused-cache : (r : Refusal) (c : Call) (lent : List ℤ) (pick : Pick) (p : Plant) → (((settle (some r) c lent pick p) .plant) .cache) ≡ p .cache
-refused-cache r c lent pick p = byCase (endsSession r) (λ e. rw e (ended (sessionOf c))) (λ e. rw e refl)
+refused-cache : (r : Refusal) (c : Call) (lent : List ℤ) (p : Plant) → (((settle (some r) c lent p) .plant) .cache) ≡ p .cache
+refused-cache r c lent p = byCase (endsSession r) (λ e. rw e (ended (sessionOf c))) (λ e. rw e refl)
   where
     ended : (x : Option ℕ) → (ending x p) .cache ≡ p .cache
     ended none = refl
     ended (some s) = refl
 
-order-step : (c : Call) (lent : List ℤ) (pick : Pick) (p : Plant) (l : List ℕ) → Kept p → InOrder (keysOf (p .cache)) l
-    → ordered c l (step c lent pick p)
+order-step : (c : Call) (lent : List ℤ) (p : Plant) (l : List ℕ) → Kept p → InOrder (keysOf (p .cache)) l
+    → ordered c l (step c lent p)
 unfolding step
-order-step c lent pick p l k o = go (first (conditions c lent p))
+order-step c lent p l k o = go (first (conditions c lent p))
   where
-    go : (x : Option Refusal) → ordered c l (settle x c lent pick p)
-    go none = keys-accepted c lent pick p l k o
-    go (some r) = subst (λ m. InOrder (keysOf m) l) (sym (refused-cache r c lent pick p)) o
+    go : (x : Option Refusal) → ordered c l (settle x c lent p)
+    go none = keys-accepted c lent p l k o
+    go (some r) = subst (λ m. InOrder (keysOf m) l) (sym (refused-cache r c lent p)) o
 
-order-turns : (ts : List Turn) (w : World) (l : List ℕ) → AllAllowed ts (w .plant) → Kept (w .plant) → InOrder (keysOf ((w .plant) .cache)) l
+order-turns : (ts : List Turn) (w : World) (l : List ℕ) → Kept (w .plant) → InOrder (keysOf ((w .plant) .cache)) l
     → InOrder (keysOf (((turns ts w) .plant) .cache)) (byReads (exchanges ts (w .plant)) l)
-order-turns [] w l f k o = o
-order-turns (t ∷ ts) w l f k o =
-    order-turns ts (turn t w) _ (f .1) (step-keeps (t .call) (t .lent) (t .pick) (w .plant) (f .0) k)
-    (order-step (t .call) (t .lent) (t .pick) (w .plant) l k o)
+order-turns [] w l k o = o
+order-turns (t ∷ ts) w l k o =
+    order-turns ts (turn t w) _ (step-keeps (t .call) (t .lent) (w .plant) k)
+    (order-step (t .call) (t .lent) (w .plant) l k o)
 
 pub in-read-order : InReadOrder
 unfolding initial setup
-in-read-order ts f = order-turns ts initial [] f initial-kept refl
+in-read-order ts = order-turns ts initial [] initial-kept refl
 
 -- ── of sixteen the first gives way ──
 -- a read with mark 1
-pub read-caches-last : (s k : ℤ) (lent : List ℤ) (pick : Pick) (p : Plant) → length (p .cache) ≤ cacheLimit → (step (Read s k) lent pick p) .answer ≡ fine (markNumber cachedNow ∷ [])
-    → CachesLast (natOf k) (p .cache) (((step (Read s k) lent pick p) .plant) .cache)
+pub read-caches-last : (s k : ℤ) (lent : List ℤ) (p : Plant) → length (p .cache) ≤ cacheLimit → (step (Read s k) lent p) .answer ≡ fine (markNumber cachedNow ∷ [])
+    → CachesLast (natOf k) (p .cache) (((step (Read s k) lent p) .plant) .cache)
 unfolding accepted afterRead
-read-caches-last s k lent pick p few e =
-    let q = step-fine (Read s k) lent pick p (fine-none (Read s k) lent pick p _ e) in
+read-caches-last s k lent p few e =
+    let q = step-fine (Read s k) lent p (fine-none (Read s k) lent p _ e) in
     subst (λ o. CachesLast (natOf k) (p .cache) ((o .plant) .cache)) (sym q)
     (go (mark (natOf s) (natOf k) p) (ap given (sym (ap (λ o. o .answer) q) ∙ e)) (marks (natOf s) (natOf k) p few))
   where
@@ -161,56 +161,29 @@ gives-way {k} {before} order c full o = last-key c ∙ ap (λ l. l ++ (k ∷ [])
     first-gone (x ∷ l) e = rw e refl
 
 pub oldest-gives-way : OldestGivesWay
-oldest-gives-way ts f s k lent pick e full =
-    gives-way (readOrder ts) (read-caches-last s k lent pick (leftBy ts) (turns-keep ts initial f initial-kept .cache .few) e) full (in-read-order ts f)
+oldest-gives-way ts s k lent e full =
+    gives-way (readOrder ts) (read-caches-last s k lent (leftBy ts) (turns-keep ts initial initial-kept .cache .few) e) full (in-read-order ts)
 
 -- ── commit ──
 pub commit-caches-none : CommitCachesNone
 unfolding step accepted committed
-commit-caches-none s lent pick p = go (first (conditions (Commit s) lent p))
+commit-caches-none s lent p = go (first (conditions (Commit s) lent p))
   where
-    go : (x : Option Refusal) → keysOf (((settle x (Commit s) lent pick p) .plant) .cache) ≡ keysOf (p .cache)
+    go : (x : Option Refusal) → keysOf (((settle x (Commit s) lent p) .plant) .cache) ≡ keysOf (p .cache)
     go none = same-keys (p .keys) _ (p .cache)
-    go (some r) = ap keysOf (refused-cache r (Commit s) lent pick p)
+    go (some r) = ap keysOf (refused-cache r (Commit s) lent p)
 
 -- ── the clock ──
 pub clock-leaves-order : ClockLeavesOrder
 unfolding step accepted
-clock-leaves-order = record { noneLapses = λ n lent pick p h. still n lent pick p h (first (conditions (Advance n) lent p)); ordered = λ n lent pick p h. left n lent pick p (kept-iff p .0 h) (first (conditions (Advance n) lent p)) }
+clock-leaves-order = record { noneLapses = λ n lent p h. still n lent p h (first (conditions (Advance n) lent p)); ordered = λ n lent p h. left n lent p (kept-iff p .0 h) (first (conditions (Advance n) lent p)) }
   where
-    still : (n : ℤ) (lent : List ℤ) (pick : Pick) (p : Plant) → any (λ (s : Slot). lapses (p .clock + natOf n) (s .session)) (p .slots) ≡ false
-        → (x : Option Refusal) → ((settle x (Advance n) lent pick p) .plant) .cache ≡ p .cache
-    still n lent pick p h none = unmoved p (natOf n) h
-    still n lent pick p h (some r) = refused-cache r (Advance n) lent pick p
+    still : (n : ℤ) (lent : List ℤ) (p : Plant) → any (λ (s : Slot). lapses (p .clock + natOf n) (s .session)) (p .slots) ≡ false
+        → (x : Option Refusal) → ((settle x (Advance n) lent p) .plant) .cache ≡ p .cache
+    still n lent p h none = unmoved p (natOf n) h
+    still n lent p h (some r) = refused-cache r (Advance n) lent p
 
-    left : (n : ℤ) (lent : List ℤ) (pick : Pick) (p : Plant) → Kept p
-        → (x : Option Refusal) → InOrder (keysOf (((settle x (Advance n) lent pick p) .plant) .cache)) (keysOf (p .cache))
-    left n lent pick p k none = lapse-order p (natOf n) k
-    left n lent pick p k (some r) = subst (λ m. InOrder (keysOf m) (keysOf (p .cache))) (sym (refused-cache r (Advance n) lent pick p)) (in-order-self (keysOf (p .cache)))
-
--- ── the freedom that is left ──
-same-accepted : (c : Call) (lent : List ℤ) (pick other : Pick) (p : Plant) → sameCase callNumber c Sweep ≡ false → accepted c lent pick p ≡ accepted c lent other p
-unfolding accepted
-same-accepted (Load d f k v) lent pick other p h = refl
-same-accepted (Map k n m) lent pick other p h = refl
-same-accepted Begin lent pick other p h = refl
-same-accepted (Read s k) lent pick other p h = refl
-same-accepted (Change s d f k v) lent pick other p h = refl
-same-accepted (Commit s) lent pick other p h = refl
-same-accepted (Abandon s) lent pick other p h = refl
-same-accepted (Advance n) lent pick other p h = refl
-same-accepted (Take w) lent pick other p h = refl
-same-accepted (Apply w fate) lent pick other p h = refl
-same-accepted (Delete w) lent pick other p h = refl
-same-accepted (Cut w) lent pick other p h = refl
-same-accepted Sweep lent pick other p h = absurd (true≢false h)
-same-accepted (Store n) lent pick other p h = refl
-same-accepted (Report s) lent pick other p h = refl
-
-pub only-sweep-chooses : OnlySweepChooses
-unfolding step
-only-sweep-chooses c lent pick other p h = go (first (conditions c lent p))
-  where
-    go : (x : Option Refusal) → settle x c lent pick p ≡ settle x c lent other p
-    go none = same-accepted c lent pick other p h
-    go (some r) = refl
+    left : (n : ℤ) (lent : List ℤ) (p : Plant) → Kept p
+        → (x : Option Refusal) → InOrder (keysOf (((settle x (Advance n) lent p) .plant) .cache)) (keysOf (p .cache))
+    left n lent p k none = lapse-order p (natOf n) k
+    left n lent p k (some r) = subst (λ m. InOrder (keysOf m) (keysOf (p .cache))) (sym (refused-cache r (Advance n) lent p)) (in-order-self (keysOf (p .cache)))

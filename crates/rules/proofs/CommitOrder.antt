@@ -15,12 +15,12 @@ use Rattle.rules.specs.Refusals.{Refusal, endsSession, first}
 use Rattle.rules.specs.Values.{natOf}
 use Rattle.rules.specs.Changes.{placeOf, updateOf}
 use Rattle.rules.specs.Tables.{Session, Slot, hasSlot, each, freed, handed, Plant, setup}
-use Rattle.rules.specs.Calls.{Fate, arrives, lost, unreached, fateOf, Call, Load, Map, Begin, Read, Change, Commit, Abandon, Advance, Take, Apply, Delete, Cut, Sweep, Store, Report, Pick}
+use Rattle.rules.specs.Calls.{Fate, arrives, lost, unreached, fateOf, Call, Load, Map, Begin, Read, Change, Commit, Abandon, Advance, Take, Apply, Delete, Cut, Sweep, Store, Report}
 use Rattle.rules.specs.Conditions.{noRoom, conditions}
 use Rattle.rules.specs.Effects.{loaded, mapped, opened, firstDoomed, room, begun, withShared, onlyAt, afterRead, grant, changed, committed, abandoned, lapse, advanced, taken, carried, applied, deleted, cut, swept}
 use Rattle.rules.specs.Step.{accepted, sessionOf, ending, afterRefusal, settle, step}
 use Rattle.rules.specs.Kept.{goodNumber}
-use Rattle.rules.specs.History.{changesNothing, Committed, History, emptyHistory, note, noteAnswer, Turn, World, turn, turns, AllAllowed, initial}
+use Rattle.rules.specs.History.{changesNothing, Committed, History, emptyHistory, note, noteAnswer, Turn, World, turn, turns, initial}
 use Rattle.rules.proofs.Laws.{byCase, self, not-met, NoneMet, none-met, or-zero, and-true, pushed-room}
 use Rattle.rules.proofs.Tests.{all-imp, all-snoc}
 use Rattle.rules.proofs.Slots.{hasSlot-each, hasSlot-freed, hasSlot-snoc, has-slot}
@@ -45,36 +45,42 @@ pub record Order (commits : List Committed) (buffered : List ℕ) (next : ℕ) (
 abbrev pub OrderAt : History → Plant → Type 0
 OrderAt h p = Order (h .commits) (h .buffered) (p .next) (p .slots)
 
+module _ (n next : ℕ) (slots : List Slot) (e : isGone next slots n ≡ true) where
+  spent : n < next
+  spent = ltb-true n next (and-true (ltb n next) (not (hasSlot n slots)) e .0)
+
+  pub slotless : hasSlot n slots ≡ false
+  slotless = not-true (hasSlot n slots) (and-true (ltb n next) (not (hasSlot n slots)) e .1)
+
+  -- ── it stays so ──
+  pub gone-freed : (s : ℕ) → isGone next (freed s slots) n ≡ true
+  gone-freed s = rw (lt-ltb n next spent, hasSlot-freed s n slots, slotless) (byCase (eqb n s) (λ t. rw t) (λ t. rw t))
+
+  pub gone-each : (f : ℕ → Session → Session) → isGone next (each f slots) n ≡ true
+  gone-each f = rw (lt-ltb n next spent, hasSlot-each f n slots, slotless) refl
+
+  pub gone-begun : (clock : ℕ) → isGone (suc next) (slots ++ (opened next clock ∷ [])) n ≡ true
+  gone-begun clock = rw (lt-ltb n (suc next) (omega (arith, spent)), hasSlot-snoc n slots (opened next clock), slotless, ne-eqb n next (λ q. less n next spent q)) refl
+    where
+      less : (a b : ℕ) → a < b → a ≡ b → ⊥
+      less a b u v = omega arith
+
 not-gone : (next : ℕ) (slots : List Slot) (s : ℕ) (l : List ℕ) → all (isGone next slots) l ≡ true → hasSlot s slots ≡ true → has s l ≡ false
 not-gone next slots s l a h = not-swept (isGone next slots) s l a (rw h (and-false (ltb s next) false refl))
 
 -- ── the slots change ──
 module _ {commits : List Committed} {buffered : List ℕ} {next : ℕ} {slots : List Slot} (o : Order commits buffered next slots) where
-  order-slots : (next′ : ℕ) (slots′ : List Slot) → ((n : ℕ) → n < next → hasSlot n slots ≡ false → isGone next′ slots′ n ≡ true)
-      → Order commits buffered next′ slots′
-  order-slots next′ slots′ h =
-      record {
-        gone =
-            all-imp (isGone next slots) (isGone next′ slots′)
-            (λ n e. let g = and-true (ltb n next) (not (hasSlot n slots)) e in h n (ltb-true n next (g .0)) (not-true (hasSlot n slots) (g .1)))
-            (numbersIn commits) (o .gone);
-        order = o .order;
-      }
+  order-slots : (next′ : ℕ) (slots′ : List Slot) → ((n : ℕ) → isGone next slots n ≡ true → isGone next′ slots′ n ≡ true) → Order commits buffered next′ slots′
+  order-slots next′ slots′ h = record { gone = all-imp (isGone next slots) (isGone next′ slots′) h (numbersIn commits) (o .gone); order = o .order }
 
   pub order-freed : (s : ℕ) → Order commits buffered next (freed s slots)
-  order-freed s =
-      order-slots next (freed s slots) (λ n lt e. rw (lt-ltb n next lt, hasSlot-freed s n slots, e) (byCase (eqb n s) (λ t. rw t) (λ t. rw t)))
+  order-freed s = order-slots next (freed s slots) (λ n e. gone-freed n next slots e s)
 
   pub order-each : (f : ℕ → Session → Session) → Order commits buffered next (each f slots)
-  order-each f = order-slots next (each f slots) (λ n lt e. rw (lt-ltb n next lt, hasSlot-each f n slots, e) refl)
+  order-each f = order-slots next (each f slots) (λ n e. gone-each n next slots e f)
 
   pub order-begun : (clock : ℕ) → Order commits buffered (suc next) (slots ++ (opened next clock ∷ []))
-  order-begun clock =
-      order-slots (suc next) (slots ++ (opened next clock ∷ []))
-      (λ n lt e. rw (lt-ltb n (suc next) (omega arith), hasSlot-snoc n slots (opened next clock), e, ne-eqb n next (λ q. less n next lt q)) refl)
-    where
-      less : (a b : ℕ) → a < b → a ≡ b → ⊥
-      less a b u v = omega arith
+  order-begun clock = order-slots (suc next) (slots ++ (opened next clock ∷ [])) (λ n e. gone-begun n next slots e clock)
 
   -- ── a session commits, a buffered one is deleted ──
   pub order-commit : (x : Committed) → hasSlot (x .number) slots ≡ true → ltb (x .number) next ≡ true
@@ -127,29 +133,29 @@ module _ {commits : List Committed} {buffered : List ℕ} {next : ℕ} {slots : 
       }
 
 -- ── every call ──
-order-accepted : (c : Call) (lent : List ℤ) (pick : Pick) (h : History) (p : Plant) → NoneMet (conditions c lent p) → Kept p → OrderAt h p
-    → OrderAt (noteAnswer c ((accepted c lent pick p) .answer) ((accepted c lent pick p) .words) h) ((accepted c lent pick p) .plant)
+order-accepted : (c : Call) (lent : List ℤ) (h : History) (p : Plant) → NoneMet (conditions c lent p) → Kept p → OrderAt h p
+    → OrderAt (noteAnswer c ((accepted c lent p) .answer) ((accepted c lent p) .words) h) ((accepted c lent p) .plant)
 unfolding accepted conditions note loaded mapped begun afterRead changed committed abandoned advanced taken applied deleted cut swept
-order-accepted (Load d f kd v) lent pick h p m k o = o
-order-accepted (Map ky n qs) lent pick h p m k o = o
-order-accepted Begin lent pick h p m k o =
+order-accepted (Load d f kd v) lent h p m k o = o
+order-accepted (Map ky n qs) lent h p m k o = o
+order-accepted Begin lent h p m k o =
     rw (pushed-room slotLimit (room (p .slots)) (opened (p .next) (p .clock)) (room-fits (p .slots) (k .slots .few) (not-met _ _ (m .1 .0))))
     (order-begun with-room (p .clock))
   where
     with-room : Order (h .commits) (h .buffered) (p .next) (room (p .slots))
     with-room = byCase (leb slotLimit (length (p .slots))) (λ e. rw e (order-freed o (firstDoomed (p .slots)))) (λ e. rw e o)
-order-accepted (Read s ky) lent pick h p m k o = order-each o (onlyAt (natOf s) (withShared (p .clock) (p .keys (natOf ky))))
-order-accepted (Change s d f kd v) lent pick h p m k o = order-each o (grant (p .clock) (natOf s) (updateOf (placeOf d f) (natOf kd) v))
-order-accepted (Commit s) lent pick h p m k o =
+order-accepted (Read s ky) lent h p m k o = order-each o (onlyAt (natOf s) (withShared (p .clock) (p .keys (natOf ky))))
+order-accepted (Change s d f kd v) lent h p m k o = order-each o (grant (p .clock) (natOf s) (updateOf (placeOf d f) (natOf kd) v))
+order-accepted (Commit s) lent h p m k o =
     order-commit o (record { number = natOf s; page = h .page (natOf s) }) there
     (and-true (leb 1 (natOf s)) (ltb (natOf s) (p .next)) (number-look (goodNumber (p .next)) (natOf s) (p .slots) (k .slots .numbers) there) .1)
   where
     there : hasSlot (natOf s) (p .slots) ≡ true
     there = has-slot (natOf s) (p .slots) (not-met _ _ (m .1 .0))
-order-accepted (Abandon s) lent pick h p m k o = order-freed o (natOf s)
-order-accepted (Advance n) lent pick h p m k o = order-each o (lapse (p .clock + natOf n))
-order-accepted (Take w) lent pick h p m k o = o
-order-accepted (Apply w fate) lent pick h p m k o = go (fateOf fate)
+order-accepted (Abandon s) lent h p m k o = order-freed o (natOf s)
+order-accepted (Advance n) lent h p m k o = order-each o (lapse (p .clock + natOf n))
+order-accepted (Take w) lent h p m k o = o
+order-accepted (Apply w fate) lent h p m k o = go (fateOf fate)
   where
     there : OrderAt h (carried (handed (p .hands (natOf w))) p)
     there = rw (carried-slots (handed (p .hands (natOf w))) p, carried-next (handed (p .hands (natOf w))) p) o
@@ -158,11 +164,11 @@ order-accepted (Apply w fate) lent pick h p m k o = go (fateOf fate)
     go arrives = there
     go lost = byCase (noRoom (natOf w) p) (λ e. rw e o) (λ e. rw e there)
     go unreached = o
-order-accepted (Delete w) lent pick h p m k o = order-delete o _
-order-accepted (Cut w) lent pick h p m k o = o
-order-accepted Sweep lent pick h p m k o = o
-order-accepted (Store n) lent pick h p m k o = o
-order-accepted (Report s) lent pick h p m k o = o
+order-accepted (Delete w) lent h p m k o = order-delete o _
+order-accepted (Cut w) lent h p m k o = o
+order-accepted Sweep lent h p m k o = o
+order-accepted (Store n) lent h p m k o = o
+order-accepted (Report s) lent h p m k o = o
 
 order-refused : (h : History) (p : Plant) (c : Call) (r : Refusal) → OrderAt h p → OrderAt h (afterRefusal c r p)
 order-refused h p c r o = byCase (endsSession r) (λ e. rw e (go (sessionOf c))) (λ e. rw e o)
@@ -171,22 +177,22 @@ order-refused h p c r o = byCase (endsSession r) (λ e. rw e (go (sessionOf c)))
     go none = o
     go (some s) = order-freed o s
 
-pub order-step : (c : Call) (lent : List ℤ) (pick : Pick) (h : History) (p : Plant) → Kept p → OrderAt h p
-    → OrderAt (noteAnswer c ((step c lent pick p) .answer) ((step c lent pick p) .words) h) ((step c lent pick p) .plant)
+pub order-step : (c : Call) (lent : List ℤ) (h : History) (p : Plant) → Kept p → OrderAt h p
+    → OrderAt (noteAnswer c ((step c lent p) .answer) ((step c lent p) .words) h) ((step c lent p) .plant)
 unfolding step
-order-step c lent pick h p k o = go (first (conditions c lent p)) refl
+order-step c lent h p k o = go (first (conditions c lent p)) refl
   where
     go : (x : Option Refusal) → first (conditions c lent p) ≡ x
-        → OrderAt (noteAnswer c ((settle x c lent pick p) .answer) ((settle x c lent pick p) .words) h) ((settle x c lent pick p) .plant)
-    go none e = order-accepted c lent pick h p (none-met (conditions c lent p) e) k o
+        → OrderAt (noteAnswer c ((settle x c lent p) .answer) ((settle x c lent p) .words) h) ((settle x c lent p) .plant)
+    go none e = order-accepted c lent h p (none-met (conditions c lent p) e) k o
     go (some r) e = order-refused h p c r o
 
-pub order-turns : (ts : List Turn) (w : World) → AllAllowed ts (w .plant) → Kept (w .plant) → OrderAt (w .history) (w .plant)
+pub order-turns : (ts : List Turn) (w : World) → Kept (w .plant) → OrderAt (w .history) (w .plant)
     → OrderAt ((turns ts w) .history) ((turns ts w) .plant)
-order-turns [] w f k o = o
-order-turns (t ∷ ts) w f k o =
-    order-turns ts (turn t w) (f .1) (step-keeps (t .call) (t .lent) (t .pick) (w .plant) (f .0) k)
-    (order-step (t .call) (t .lent) (t .pick) (w .history) (w .plant) k o)
+order-turns [] w k o = o
+order-turns (t ∷ ts) w k o =
+    order-turns ts (turn t w) (step-keeps (t .call) (t .lent) (w .plant) k)
+    (order-step (t .call) (t .lent) (w .history) (w .plant) k o)
 
 pub order-initial : OrderAt (initial .history) (initial .plant)
 unfolding initial setup emptyHistory

@@ -23,7 +23,7 @@ use Rattle.rules.proofs.Workers.{current-is-history}
 use Rattle.rules.proofs.Kept.{turns-keep, initial-kept}
 use Rattle.rules.proofs.InvariantSteps.{inv-turns, inv-initial}
 use Rattle.rules.proofs.CommitOrder.{order-turns, order-initial}
-use Rattle.rules.proofs.Prepare.{turns-append, allowed-left, allowed-right, fine-append, Past, prepare-run}
+use Rattle.rules.proofs.Prepare.{turns-append, fine-append, Past, prepare-run}
 use Rattle.rules.proofs.Drain.{Ready, length-nums, all-rounds}
 
 -- ── what the invariant says ──
@@ -74,10 +74,10 @@ over (leased o t) before now e h k =
     late b n x u v w = omega arith
 
 drain : (w : World) → Kept (w .plant) → Inv (w .history) (w .plant) → Drains w
-drain w k i v lt l way ts us c d f =
+drain w k i v lt l way ts us c d =
     let a = prepare-run v lt l ts w c (omega (arith, way .moves)) (omega (arith, way .moves, way .ticksLeft)) in
     let w₁ = turns ts w in
-    let k₁ = turns-keep ts w (allowed-left ts us (w .plant) f) k in
+    let k₁ = turns-keep ts w k in
     let r : Ready v (w₁ .plant) = record {
       near = a .prepared .near ∙ way .store;
       hand = a .prepared .hand ∙ rw (way .worker);
@@ -86,7 +86,7 @@ drain w k i v lt l way ts us c d f =
     } in
     let n : length ((w₁ .plant) .buffer) ≡ length ((w .history) .buffered) = rw (a .prepared .buffer, ← i .workers .names)
     (sym (length-nums ((w .plant) .buffer))) in
-    let z = all-rounds v lt (length ((w .history) .buffered)) us w₁ d n k₁ r (allowed-right ts us w f) in
+    let z = all-rounds v lt (length ((w .history) .buffered)) us w₁ d n k₁ r in
     let e : turns (ts ++ us) w ≡ turns us w₁ = turns-append ts us w in
     let empty′ : ((turns (ts ++ us) w) .plant) .buffer ≡ [] = rw e (z .buffer) in
     record {
@@ -94,18 +94,18 @@ drain w k i v lt l way ts us c d f =
           fine-append ts us w (a .noneRefused) (z .noneRefused);
       nothingBuffered =
           empty′;
-      allStored = all-stored (inv-turns (ts ++ us) w f k i) empty′;
+      allStored = all-stored (inv-turns (ts ++ us) w k i) empty′;
     }
 
 -- ── demand 3 ──
 pub demand3 : Demand3
-demand3 ts f =
-    let i = inv-turns ts initial f initial-kept inv-initial in
+demand3 ts =
+    let i = inv-turns ts initial initial-kept inv-initial in
     let w = turns ts initial in
     record {
       firstPart = first-part i;
       buffer = i .workers .names;
-      commitOrder = order-turns ts initial f initial-kept order-initial .order;
+      commitOrder = order-turns ts initial initial-kept order-initial .order;
       asAlone = i .alone;
-      drains = drain w (turns-keep ts initial f initial-kept) i;
+      drains = drain w (turns-keep ts initial initial-kept) i;
     }

@@ -2,28 +2,31 @@
 use Prim.Native.Nat.{_<_, _≤_, suc, zero, ℕ}
 use native.Mathlib.Omega.{arith}
 use mathlib.Core.Path.{_∙_, _≡_, ap, refl, sym}
-use mathlib.Core.Bool.{Bool, _&&_, false, not, true, true≢false}
+use mathlib.Core.Bool.{Bool, false, not, true, true≢false}
 use mathlib.Core.Option.{some}
 use mathlib.Core.List.{List, [], _++_, _∷_, head-eq-of-cons-eq, map, nil≢cons, tail-eq-of-cons-eq}
-use lib.ListN.{length, length-append}
+use lib.ListN.{length, length-append, length-take}
 use lib.Dec.{eqb}
 use lib.IntN.{pos, ℤ}
 use borrow.Author.Tests.{eqb-true, lt-leb, lt-ltb}
-use Rattle.rules.specs.Lists.{keep, any, all, isEmpty, has, without, upto}
-use Rattle.rules.specs.Limits.{rowLimit, workerCount}
+use Rattle.rules.specs.Lists.{keep, has, without, upto}
+use Rattle.rules.specs.Limits.{rowLimit, sweepLimit, workerCount}
 use Rattle.rules.specs.Refusals.{queueLeased, wrongHand, _⇒_}
-use Rattle.rules.specs.Tables.{Batch, numbersOf, isBuffered, Hand, empty, holds, full, handed, inHand, anyHand, leased, isLeased, Plant, removable, withHand}
-use Rattle.rules.specs.Calls.{Call, Take, Apply, Delete, Sweep, Answer, Pick}
+use Rattle.rules.specs.Tables.{Batch, numbersOf, isBuffered, holds, full, handed, anyHand, leased, isLeased, Plant, removable, withHand}
+use Rattle.rules.specs.Calls.{Call, Take, Apply, Delete, Sweep, Answer}
 use Rattle.rules.specs.Conditions.{conditions}
 use Rattle.rules.specs.Effects.{room, taken, carried, applied, deleted, swept}
-use Rattle.rules.specs.Step.{accepted, step, Allowed}
-use Rattle.rules.specs.History.{Turn, World, does, turn, turns, AllAllowed}
+use Rattle.rules.specs.Step.{accepted, step}
+use Rattle.rules.specs.History.{Turn, World, does, turn, turns}
 use Rattle.rules.specs.Demand3.{fourCalls, rounds, callsOf, isFine, NoneRefused}
-use Rattle.rules.proofs.Laws.{byCase, self, or-one, and-true}
-use Rattle.rules.proofs.Tests.{Once, all-head}
+use Rattle.rules.proofs.Laws.{byCase, self, or-one}
+use Rattle.rules.proofs.Tests.{Once}
 use Rattle.rules.proofs.Steps.{unmet, step-fine}
 use Rattle.rules.proofs.KeptParts.{Kept}
-use Rattle.rules.proofs.Buffer.{has-append, length-keep, length-keep-less, buffered-nums, unbuffer-none}
+use Rattle.rules.proofs.Buffer.{has-append, has-left, once-keep, length-keep-less, buffered-nums, unbuffer-none}
+use Rattle.rules.proofs.InOrder.{kept-has}
+use Rattle.rules.proofs.Sweeping.{split-length, row-in-hands, swept-count}
+use Rattle.rules.proofs.KeptTables.{has-keep-true}
 use Rattle.rules.proofs.Kept.{step-keeps, turns-keep}
 use Rattle.rules.proofs.Prepare.{fine-append}
 
@@ -60,71 +63,34 @@ inHands p = map (λ w. handed (p .hands w)) (upto workerCount)
 abbrev pub heldRows : Plant → List ℕ
 heldRows p = numbersOf (p .buffer) ++ inHands p
 
-pub in-hand-is : (n : ℕ) (x : Hand) → inHand n x ≡ true → eqb n (handed x) ≡ true
-in-hand-is n empty e = absurd (true≢false (sym e))
-in-hand-is n (holds m r) e = e
-
-pub has-left : (n : ℕ) (a b : List ℕ) → has n a ≡ true → has n (a ++ b) ≡ true
-has-left n a b e = rw (has-append n a b, e)
-
 pub has-right : (n : ℕ) (a b : List ℕ) → has n b ≡ true → has n (a ++ b) ≡ true
 has-right n a b e = rw (has-append n a b, e) (or-one (has n a))
-
-pub in-hands : (hands : ℕ → Hand) (n : ℕ) (l : List ℕ) → any (λ w. inHand n (hands w)) l ≡ true → has n (map (λ w. handed (hands w)) l) ≡ true
-in-hands hands n [] e = absurd (true≢false (sym e))
-in-hands hands n (w ∷ l) e =
-    byCase (eqb n (handed (hands w))) (λ t. rw t)
-    (λ t. rw t (in-hands hands n l (rw (byCase (inHand n (hands w)) (λ u. absurd (true≢false (sym (in-hand-is n (hands w) u) ∙ t))) (λ u. u)) at e)))
 
 pub length-nums : (l : List Batch) → length (numbersOf l) ≡ length l
 length-nums [] = refl
 length-nums (b ∷ l) = ap suc (length-nums l)
 
-pub any-false : (f : ℕ → Bool) (n : ℕ) (l : List ℕ) → any f l ≡ false → has n l ≡ true → f n ≡ false
-any-false f n [] e h = absurd (true≢false (sym h))
-any-false f n (x ∷ l) e h =
-    byCase (f x) (λ t. absurd (true≢false (rw t at e)))
-    (λ t. byCase (eqb n x) (λ u. rw (eqb-true n x u) t) (λ u. any-false f n l (rw t at e) (rw u at h)))
-
 -- after a sweep there is room for a row
-pub swept-room : (p : Plant) (pick : Pick) → Kept p → Allowed pick p → length ((swept (pick .swept) p) .rows) < rowLimit
-unfolding swept
-swept-room p pick i al = byCase (any (removable p) (p .rows)) some-go none-left
-  where
-    l : List ℕ
-    l = pick .swept
-
-    less : (k : List ℕ) → all (λ n. has n (p .rows) && removable p n) k ≡ true → k ≡ l → isEmpty k ≡ false
-        → length (keep (λ n. not (has n l)) (p .rows)) < rowLimit
-    less [] a q e = absurd (true≢false e)
-    less (x ∷ k) a q e =
-        omega (
-          arith,
-          i .rows .few,
-          length-keep-less (λ n. not (has n l)) x (p .rows)
-              (and-true (has x (p .rows)) (removable p x) (all-head (λ n. has n (p .rows) && removable p n) x k a) .0) (rw (← q) (rw (self x))),
-        )
-
-    some-go : any (removable p) (p .rows) ≡ true → length (keep (λ n. not (has n l)) (p .rows)) < rowLimit
-    some-go e = less l (al .removes) refl (al .atLeast e)
-
-    held : any (removable p) (p .rows) ≡ false → (n : ℕ) → has n (p .rows) ≡ true → has n (heldRows p) ≡ true
-    held e n g =
-        byCase (isBuffered n (p .buffer))
-        (λ t. has-left n (numbersOf (p .buffer)) (inHands p) (sym (buffered-nums n (p .buffer)) ∙ t))
-        (λ t. byCase (anyHand (p .hands) n) (λ u. has-right n (numbersOf (p .buffer)) (inHands p) (in-hands (p .hands) n (upto workerCount) u))
-        (λ u. absurd (true≢false (rw (t, u) at (any-false (removable p) n (p .rows) e g)))))
-
-    none-left : any (removable p) (p .rows) ≡ false → length (keep (λ n. not (has n l)) (p .rows)) < rowLimit
-    none-left e = omega (
+pub swept-room : (p : Plant) → Kept p → length ((swept p) .rows) < rowLimit
+swept-room p i =
+    omega (
       arith,
-      length-keep (λ n. not (has n l)) (p .rows),
-      once-length (p .rows) (heldRows p) (i .rows .once) (held e),
-      length-append
-          (numbersOf (p .buffer)) (inHands p),
+      swept-count p (i .rows .once),
+      length-take sweepLimit (keep (removable p) (p .rows)),
+      split-length (removable p) (p .rows),
+      once-length (keep (λ n. not (removable p n)) (p .rows)) (heldRows p) (once-keep (λ n. not (removable p n)) (p .rows) (i .rows .once)) held,
+      length-append (numbersOf (p .buffer)) (inHands p),
       length-nums (p .buffer),
       i .buffer .few,
+      i .rows .few,
     )
+  where
+    held : (n : ℕ) → has n (keep (λ m. not (removable p m)) (p .rows)) ≡ true → has n (heldRows p) ≡ true
+    held n g =
+        byCase (isBuffered n (p .buffer))
+        (λ t. has-left n (numbersOf (p .buffer)) (inHands p) (sym (buffered-nums n (p .buffer)) ∙ t))
+        (λ t. byCase (anyHand (p .hands) n) (λ u. has-right n (numbersOf (p .buffer)) (inHands p) (sym (row-in-hands n p i (has-keep-true (λ m. not (removable p m)) n (p .rows) g) (upto workerCount)) ∙ u))
+        (λ u. absurd (true≢false (sym (kept-has (λ m. not (removable p m)) n (p .rows) g) ∙ rw (t, u)))))
 
 -- ── the four calls ──
 pub record Stage (v : ℕ) (r : Bool) (b : Batch) (l : List Batch) (p : Plant) : Type 0 where
@@ -136,19 +102,19 @@ pub record Stage (v : ℕ) (r : Bool) (b : Batch) (l : List Batch) (p : Plant) :
 abbrev pub Fine : Answer → Type 0
 Fine a = isFine a ≡ true
 
-pub round-take : (v : ℕ) (b : Batch) (l : List Batch) (lent : List ℤ) (k : Pick) (p : Plant) → v < workerCount → Ready v p → p .buffer ≡ b ∷ l
-    → Fine ((step (Take (pos v)) lent k p) .answer) × Stage v false b l ((step (Take (pos v)) lent k p) .plant)
+pub round-take : (v : ℕ) (b : Batch) (l : List Batch) (lent : List ℤ) (p : Plant) → v < workerCount → Ready v p → p .buffer ≡ b ∷ l
+    → Fine ((step (Take (pos v)) lent p) .answer) × Stage v false b l ((step (Take (pos v)) lent p) .plant)
 unfolding conditions accepted taken _⇒_
-round-take v b l lent k p lt r e =
-    rw (step-fine (Take (pos v)) lent k p (rw (lt-ltb v workerCount lt), (unmet _ wrongHand (r .hand), (unmet _ queueLeased (r .queue), (rw e, tt)))))
+round-take v b l lent p lt r e =
+    rw (step-fine (Take (pos v)) lent p (rw (lt-ltb v workerCount lt), (unmet _ wrongHand (r .hand), (unmet _ queueLeased (r .queue), (rw e, tt)))))
     (refl, record { near = r .near; hand = rw (self v, e); buffer = e; queue = refl })
 
-pub round-sweep : (v : ℕ) (b : Batch) (l : List Batch) (lent : List ℤ) (k : Pick) (p : Plant) → Stage v false b l p
-    → Fine ((step Sweep lent k p) .answer) × Stage v false b l ((step Sweep lent k p) .plant) ×
-    (((step Sweep lent k p) .plant) .rows ≡ (swept (k .swept) p) .rows)
+pub round-sweep : (v : ℕ) (b : Batch) (l : List Batch) (lent : List ℤ) (p : Plant) → Stage v false b l p
+    → Fine ((step Sweep lent p) .answer) × Stage v false b l ((step Sweep lent p) .plant) ×
+    (((step Sweep lent p) .plant) .rows ≡ (swept p) .rows)
 unfolding conditions accepted swept _⇒_
-round-sweep v b l lent k p s =
-    rw (step-fine Sweep lent k p (rw (s .near), tt)) (refl, record { near = s .near; hand = s .hand; buffer = s .buffer; queue = s .queue }, refl)
+round-sweep v b l lent p s =
+    rw (step-fine Sweep lent p (rw (s .near), tt)) (refl, record { near = s .near; hand = s .hand; buffer = s .buffer; queue = s .queue }, refl)
 
 pub carried-stage : (v n : ℕ) (b : Batch) (l : List Batch) (p : Plant) → Stage v false b l p
     → Stage v true b l (withHand v (holds (b .number) true) (carried n p))
@@ -158,23 +124,23 @@ carried-stage v n b l p s =
     (λ e. rw e (record { near = s .near; hand = rw (self v); buffer = s .buffer; queue = s .queue }))
     (λ e. rw e (record { near = s .near; hand = rw (self v); buffer = s .buffer; queue = s .queue }))
 
-pub round-apply : (v : ℕ) (b : Batch) (l : List Batch) (lent : List ℤ) (k : Pick) (p : Plant) → v < workerCount → Stage v false b l p
+pub round-apply : (v : ℕ) (b : Batch) (l : List Batch) (lent : List ℤ) (p : Plant) → v < workerCount → Stage v false b l p
     → length (p .rows) < rowLimit
-    → Fine ((step (Apply (pos v) (pos 0)) lent k p) .answer) × Stage v true b l ((step (Apply (pos v) (pos 0)) lent k p) .plant)
+    → Fine ((step (Apply (pos v) (pos 0)) lent p) .answer) × Stage v true b l ((step (Apply (pos v) (pos 0)) lent p) .plant)
 unfolding conditions accepted applied _⇒_
-round-apply v b l lent k p lt s room =
+round-apply v b l lent p lt s room =
     rw
-    (step-fine (Apply (pos v) (pos 0)) lent k p
+    (step-fine (Apply (pos v) (pos 0)) lent p
     (rw (lt-ltb v workerCount lt), (rw (s .hand), (rw (s .near), (rw (lt-leb rowLimit (length (p .rows)) room), tt)))))
     (refl, rw (s .hand) (carried-stage v (b .number) b l p s))
 
-pub round-delete : (v : ℕ) (b : Batch) (l : List Batch) (lent : List ℤ) (k : Pick) (p : Plant) → v < workerCount → Stage v true b l p
+pub round-delete : (v : ℕ) (b : Batch) (l : List Batch) (lent : List ℤ) (p : Plant) → v < workerCount → Stage v true b l p
     → has (b .number) (numbersOf l) ≡ false
-    → Fine ((step (Delete (pos v)) lent k p) .answer) × Ready v ((step (Delete (pos v)) lent k p) .plant) ×
-    (((step (Delete (pos v)) lent k p) .plant) .buffer ≡ l)
+    → Fine ((step (Delete (pos v)) lent p) .answer) × Ready v ((step (Delete (pos v)) lent p) .plant) ×
+    (((step (Delete (pos v)) lent p) .plant) .buffer ≡ l)
 unfolding conditions accepted deleted _⇒_
-round-delete v b l lent k p lt s o =
-    rw (step-fine (Delete (pos v)) lent k p (rw (lt-ltb v workerCount lt), (rw (s .hand), tt))) (
+round-delete v b l lent p lt s o =
+    rw (step-fine (Delete (pos v)) lent p (rw (lt-ltb v workerCount lt), (rw (s .hand), tt))) (
       refl,
       record { near = s .near; hand = rw (self v); queue = rw (s .queue, self v) },
       rw (s .hand, s .buffer, self (b .number))
@@ -199,23 +165,23 @@ pub record Rounded (v : ℕ) (l : List Batch) (ts : List Turn) (w : World) : Typ
 
 pub a-round : (v : ℕ) → v < workerCount → (b : Batch) (l : List Batch) (t₁ t₂ t₃ t₄ : Turn) (w : World) → Makes v t₁ t₂ t₃ t₄ → Kept (w .plant)
     → Ready v (w .plant)
-    → (w .plant) .buffer ≡ b ∷ l → AllAllowed (t₁ ∷ t₂ ∷ t₃ ∷ t₄ ∷ []) (w .plant) → Rounded v l (t₁ ∷ t₂ ∷ t₃ ∷ t₄ ∷ []) w
-a-round v lt b l t₁ t₂ t₃ t₄ w m i r e f =
+    → (w .plant) .buffer ≡ b ∷ l → Rounded v l (t₁ ∷ t₂ ∷ t₃ ∷ t₄ ∷ []) w
+a-round v lt b l t₁ t₂ t₃ t₄ w m i r e =
     let s₁ : Fine ((does t₁ (w .plant)) .answer) × Stage v false b l ((does t₁ (w .plant)) .plant) = rw (m .one)
-    (round-take v b l (t₁ .lent) (t₁ .pick) (w .plant) lt r e) in
+    (round-take v b l (t₁ .lent) (w .plant) lt r e) in
     let w₁ = turn t₁ w in
-    let i₁ : Kept (w₁ .plant) = step-keeps (t₁ .call) (t₁ .lent) (t₁ .pick) (w .plant) (f .0) i in
+    let i₁ : Kept (w₁ .plant) = step-keeps (t₁ .call) (t₁ .lent) (w .plant) i in
     let s₂ : Fine ((does t₂ (w₁ .plant)) .answer) × Stage v false b l ((does t₂ (w₁ .plant)) .plant) ×
-    (((does t₂ (w₁ .plant)) .plant) .rows ≡ (swept ((t₂ .pick) .swept) (w₁ .plant)) .rows) =
-    rw (m .two) (round-sweep v b l (t₂ .lent) (t₂ .pick) (w₁ .plant) (s₁ .1)) in
+    (((does t₂ (w₁ .plant)) .plant) .rows ≡ (swept (w₁ .plant)) .rows) =
+    rw (m .two) (round-sweep v b l (t₂ .lent) (w₁ .plant) (s₁ .1)) in
     let w₂ = turn t₂ w₁ in
-    let room : length ((w₂ .plant) .rows) < rowLimit = rw (s₂ .2) (swept-room (w₁ .plant) (t₂ .pick) i₁ (f .1 .0)) in
+    let room : length ((w₂ .plant) .rows) < rowLimit = rw (s₂ .2) (swept-room (w₁ .plant) i₁) in
     let s₃ : Fine ((does t₃ (w₂ .plant)) .answer) × Stage v true b l ((does t₃ (w₂ .plant)) .plant) = rw (m .three)
-    (round-apply v b l (t₃ .lent) (t₃ .pick) (w₂ .plant) lt (s₂ .1) room) in
+    (round-apply v b l (t₃ .lent) (w₂ .plant) lt (s₂ .1) room) in
     let w₃ = turn t₃ w₂ in
     let once : has (b .number) (numbersOf l) ≡ false = (rw e at (i .buffer .once)) .0 in
     let s₄ : Fine ((does t₄ (w₃ .plant)) .answer) × Ready v ((does t₄ (w₃ .plant)) .plant) × (((does t₄ (w₃ .plant)) .plant) .buffer ≡ l) =
-    rw (m .four) (round-delete v b l (t₄ .lent) (t₄ .pick) (w₃ .plant) lt (s₃ .1) once) in
+    rw (m .four) (round-delete v b l (t₄ .lent) (w₃ .plant) lt (s₃ .1) once) in
     record { noneRefused = (s₁ .0, (s₂ .0, (s₃ .0, (s₄ .0, tt)))); ready = s₄ .1; buffer = s₄ .2 }
 
 -- ── all rounds ──
@@ -232,20 +198,18 @@ nil-length [] e = refl
 nil-length (b ∷ l) e = absurd (omega arith)
 
 pub all-rounds : (v : ℕ) → v < workerCount → (n : ℕ) (us : List Turn) (w : World) → callsOf us ≡ rounds v n → length ((w .plant) .buffer) ≡ n
-    → Kept (w .plant) → Ready v (w .plant)
-    → AllAllowed us (w .plant) → Rounded v [] us w
-all-rounds v lt zero [] w c e i r f = record { noneRefused = tt; ready = r; buffer = nil-length _ e }
-all-rounds v lt zero (t ∷ us) w c e i r f = absurd (nil≢cons (sym c))
-all-rounds v lt (suc n) [] w c e i r f = absurd (nil≢cons c)
-all-rounds v lt (suc n) (t₁ ∷ []) w c e i r f = absurd (nil≢cons (tail-eq-of-cons-eq c))
-all-rounds v lt (suc n) (t₁ ∷ t₂ ∷ []) w c e i r f = absurd (nil≢cons (tail-eq-of-cons-eq (tail-eq-of-cons-eq c)))
-all-rounds v lt (suc n) (t₁ ∷ t₂ ∷ t₃ ∷ []) w c e i r f = absurd (nil≢cons (tail-eq-of-cons-eq (tail-eq-of-cons-eq (tail-eq-of-cons-eq c))))
-all-rounds v lt (suc n) (t₁ ∷ t₂ ∷ t₃ ∷ t₄ ∷ us) w c e i r f =
+    → Kept (w .plant) → Ready v (w .plant) → Rounded v [] us w
+all-rounds v lt zero [] w c e i r = record { noneRefused = tt; ready = r; buffer = nil-length _ e }
+all-rounds v lt zero (t ∷ us) w c e i r = absurd (nil≢cons (sym c))
+all-rounds v lt (suc n) [] w c e i r = absurd (nil≢cons c)
+all-rounds v lt (suc n) (t₁ ∷ []) w c e i r = absurd (nil≢cons (tail-eq-of-cons-eq c))
+all-rounds v lt (suc n) (t₁ ∷ t₂ ∷ []) w c e i r = absurd (nil≢cons (tail-eq-of-cons-eq (tail-eq-of-cons-eq c)))
+all-rounds v lt (suc n) (t₁ ∷ t₂ ∷ t₃ ∷ []) w c e i r = absurd (nil≢cons (tail-eq-of-cons-eq (tail-eq-of-cons-eq (tail-eq-of-cons-eq c))))
+all-rounds v lt (suc n) (t₁ ∷ t₂ ∷ t₃ ∷ t₄ ∷ us) w c e i r =
     let m = makes v t₁ t₂ t₃ t₄ us (rounds v n) c in
     let u = uncons ((w .plant) .buffer) n e in
     let ts : List Turn = t₁ ∷ t₂ ∷ t₃ ∷ t₄ ∷ [] in
-    let g : AllAllowed ts (w .plant) = (f .0, (f .1 .0, (f .1 .1 .0, (f .1 .1 .1 .0, tt)))) in
-    let s = a-round v lt (u .0) (u .1) t₁ t₂ t₃ t₄ w (m .0) i r (u .2) g in
+    let s = a-round v lt (u .0) (u .1) t₁ t₂ t₃ t₄ w (m .0) i r (u .2) in
     let w₄ = turns ts w in
-    let z = all-rounds v lt n us w₄ (m .1) (ap length (s .buffer) ∙ u .3) (turns-keep ts w g i) (s .ready) (f .1 .1 .1 .1) in
+    let z = all-rounds v lt n us w₄ (m .1) (ap length (s .buffer) ∙ u .3) (turns-keep ts w i) (s .ready) in
     record { noneRefused = fine-append ts us w (s .noneRefused) (z .noneRefused); ready = z .ready; buffer = z .buffer }

@@ -16,7 +16,7 @@ use Rattle.rules.specs.Values.{natOf, Place, Stock, showAll}
 use Rattle.rules.specs.Changes.{follow}
 use Rattle.rules.specs.Tables.{oldest, batchOf, unbuffer, Hand, empty, holds, handed, leased, Plant, withStore, withBuffer, withRows, withHands, withHand, withQueue}
 use Rattle.rules.specs.Reading.{seen}
-use Rattle.rules.specs.Calls.{Fate, arrives, lost, unreached, fateOf, Call, Load, Map, Begin, Read, Change, Commit, Abandon, Advance, Take, Apply, Delete, Cut, Sweep, Store, Report, replyNumber, fine, Pick}
+use Rattle.rules.specs.Calls.{Fate, arrives, lost, unreached, fateOf, Call, Load, Map, Begin, Read, Change, Commit, Abandon, Advance, Take, Apply, Delete, Cut, Sweep, Store, Report, replyNumber, fine}
 use Rattle.rules.specs.Conditions.{own, noRoom, conditions}
 use Rattle.rules.specs.Effects.{loaded, mapped, begun, afterRead, changed, committed, abandoned, advanced, taken, carried, applied, ended, orphaned, deleted, cut, swept}
 use Rattle.rules.specs.Step.{accepted, afterRefusal, settle, step}
@@ -56,24 +56,24 @@ applied-only arrives w p = answered-only (handed (p .hands w)) w (holds (handed 
 applied-only lost w p = byCase (noRoom w p) (λ e. rw e (hand-kept w p)) (λ e. rw e (carried-only (handed (p .hands w)) w p))
 applied-only unreached w p = hand-kept w p
 
-writes-accepted : (c : Call) (lent : List ℤ) (pick : Pick) (p : Plant) → Writes c p ((accepted c lent pick p) .plant)
+writes-accepted : (c : Call) (lent : List ℤ) (p : Plant) → Writes c p ((accepted c lent p) .plant)
 unfolding accepted loaded mapped begun afterRead changed committed abandoned advanced taken deleted cut swept
-writes-accepted (Load d f kd v) lent pick p = refl
-writes-accepted (Map ky n qs) lent pick p = refl
-writes-accepted Begin lent pick p = refl
-writes-accepted (Read s ky) lent pick p = refl
-writes-accepted (Change s d f kd v) lent pick p = refl
-writes-accepted (Commit s) lent pick p = refl
-writes-accepted (Abandon s) lent pick p = refl
-writes-accepted (Advance n) lent pick p = refl
-writes-accepted (Take w) lent pick p = hand-put (natOf w) (holds (oldest (p .buffer)) false) (withQueue (leased (some (natOf w)) (p .clock)) p)
-writes-accepted (Apply w fate) lent pick p = applied-only (fateOf fate) (natOf w) p
-writes-accepted (Delete w) lent pick p =
+writes-accepted (Load d f kd v) lent p = refl
+writes-accepted (Map ky n qs) lent p = refl
+writes-accepted Begin lent p = refl
+writes-accepted (Read s ky) lent p = refl
+writes-accepted (Change s d f kd v) lent p = refl
+writes-accepted (Commit s) lent p = refl
+writes-accepted (Abandon s) lent p = refl
+writes-accepted (Advance n) lent p = refl
+writes-accepted (Take w) lent p = hand-put (natOf w) (holds (oldest (p .buffer)) false) (withQueue (leased (some (natOf w)) (p .clock)) p)
+writes-accepted (Apply w fate) lent p = applied-only (fateOf fate) (natOf w) p
+writes-accepted (Delete w) lent p =
     ap (withBuffer (unbuffer (handed (p .hands (natOf w))) (p .buffer))) (hand-put (natOf w) empty (withQueue (ended (natOf w) (p .queue)) p))
-writes-accepted (Cut w) lent pick p = hand-put (natOf w) empty (withQueue (orphaned (natOf w) (p .queue)) p)
-writes-accepted Sweep lent pick p = refl
-writes-accepted (Store n) lent pick p = refl
-writes-accepted (Report s) lent pick p = refl
+writes-accepted (Cut w) lent p = hand-put (natOf w) empty (withQueue (orphaned (natOf w) (p .queue)) p)
+writes-accepted Sweep lent p = refl
+writes-accepted (Store n) lent p = refl
+writes-accepted (Report s) lent p = refl
 
 -- ── refused ──
 writes-refused : (c : Call) (r : Refusal) (p : Plant) → Writes c p (afterRefusal c r p)
@@ -95,25 +95,25 @@ writes-refused (Report s) r p = byCase (endsSession r) (λ e. rw e) (λ e. rw e)
 
 pub writes-only : WritesOnly
 unfolding step
-writes-only c lent pick p = go (first (conditions c lent p))
+writes-only c lent p = go (first (conditions c lent p))
   where
-    go : (o : Option Refusal) → Writes c p ((settle o c lent pick p) .plant)
-    go none = writes-accepted c lent pick p
+    go : (o : Option Refusal) → Writes c p ((settle o c lent p) .plant)
+    go none = writes-accepted c lent p
     go (some r) = writes-refused c r p
 
 pub commit-leaves-store : CommitLeavesStore
-commit-leaves-store s lent pick p = (ap (λ q. q .store) (writes-only (Commit s) lent pick p), ap (λ q. q .rows) (writes-only (Commit s) lent pick p))
+commit-leaves-store s lent p = (ap (λ q. q .store) (writes-only (Commit s) lent p), ap (λ q. q .rows) (writes-only (Commit s) lent p))
 
 -- ── apply under another queue lease ──
 pub lease-unseen : LeaseUnseen
 unfolding step accepted
-lease-unseen w fate lent pick p other = rw (asks-unseen w fate lent p other) (go (first (conditions (Apply w fate) lent p)))
+lease-unseen w fate lent p other = rw (asks-unseen w fate lent p other) (go (first (conditions (Apply w fate) lent p)))
   where
-    go : (o : Option Refusal) → settle o (Apply w fate) lent pick (withQueue other p)
+    go : (o : Option Refusal) → settle o (Apply w fate) lent (withQueue other p)
         ≡ record {
-          answer = (settle o (Apply w fate) lent pick p) .answer;
-          words = (settle o (Apply w fate) lent pick p) .words;
-          plant = withQueue other ((settle o (Apply w fate) lent pick p) .plant);
+          answer = (settle o (Apply w fate) lent p) .answer;
+          words = (settle o (Apply w fate) lent p) .words;
+          plant = withQueue other ((settle o (Apply w fate) lent p) .plant);
         }
     go none =
         ap₂ (λ r q. record { answer = fine (replyNumber r ∷ []); words = lent; plant = q }) (reply-unseen (fateOf fate) (natOf w) p other)
@@ -144,28 +144,28 @@ fills-read s qs lent e =
     length-append (showAll (map s qs)) (drop (wordsPerField * length qs) lent)
     ∙ rw (length-showAll s qs, length-drop (wordsPerField * length qs) lent) (omega (arith, ltb-false (length lent) (wordsPerField * length qs) e))
 
-fills-accepted : (c : Call) (lent : List ℤ) (pick : Pick) (p : Plant) → NoneMet (conditions c lent p) → Fills c lent ((accepted c lent pick p) .words)
+fills-accepted : (c : Call) (lent : List ℤ) (p : Plant) → NoneMet (conditions c lent p) → Fills c lent ((accepted c lent p) .words)
 unfolding accepted conditions
-fills-accepted (Load d f kd v) lent pick p m = refl
-fills-accepted (Map ky n qs) lent pick p m = refl
-fills-accepted Begin lent pick p m = refl
-fills-accepted (Read s ky) lent pick p m = fills-read (seen p (own s p)) (p .keys (natOf ky)) lent (not-met _ _ (m .1 .1 .1 .1 .0))
-fills-accepted (Change s d f kd v) lent pick p m = refl
-fills-accepted (Commit s) lent pick p m = refl
-fills-accepted (Abandon s) lent pick p m = refl
-fills-accepted (Advance n) lent pick p m = refl
-fills-accepted (Take w) lent pick p m = refl
-fills-accepted (Apply w fate) lent pick p m = refl
-fills-accepted (Delete w) lent pick p m = refl
-fills-accepted (Cut w) lent pick p m = refl
-fills-accepted Sweep lent pick p m = refl
-fills-accepted (Store n) lent pick p m = refl
-fills-accepted (Report s) lent pick p m = refl
+fills-accepted (Load d f kd v) lent p m = refl
+fills-accepted (Map ky n qs) lent p m = refl
+fills-accepted Begin lent p m = refl
+fills-accepted (Read s ky) lent p m = fills-read (seen p (own s p)) (p .keys (natOf ky)) lent (not-met _ _ (m .1 .1 .1 .1 .0))
+fills-accepted (Change s d f kd v) lent p m = refl
+fills-accepted (Commit s) lent p m = refl
+fills-accepted (Abandon s) lent p m = refl
+fills-accepted (Advance n) lent p m = refl
+fills-accepted (Take w) lent p m = refl
+fills-accepted (Apply w fate) lent p m = refl
+fills-accepted (Delete w) lent p m = refl
+fills-accepted (Cut w) lent p m = refl
+fills-accepted Sweep lent p m = refl
+fills-accepted (Store n) lent p m = refl
+fills-accepted (Report s) lent p m = refl
 
 pub fills-only : FillsOnly
 unfolding step
-fills-only c lent pick p = go (first (conditions c lent p)) refl
+fills-only c lent p = go (first (conditions c lent p)) refl
   where
-    go : (o : Option Refusal) → first (conditions c lent p) ≡ o → Fills c lent ((settle o c lent pick p) .words)
-    go none e = fills-accepted c lent pick p (none-met (conditions c lent p) e)
+    go : (o : Option Refusal) → first (conditions c lent p) ≡ o → Fills c lent ((settle o c lent p) .words)
+    go none e = fills-accepted c lent p (none-met (conditions c lent p) e)
     go (some r) e = fills-same c lent

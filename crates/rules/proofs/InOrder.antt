@@ -34,6 +34,25 @@ has-without n m (x ∷ l) =
     (λ e. rw e (has-without n m l ∙ byCase (eqb m x) (λ t. rw (t, eqb-true m x t, e) (and-false (has x l) false refl)) (λ t. rw t)))
     (λ e. rw e (byCase (eqb m x) (λ t. rw (t, eqb-true m x t, e)) (λ t. rw t (has-without n m l))))
 
+pub has-keep : (f : ℕ → Bool) (m : ℕ) (l : List ℕ) → has m l ≡ true → f m ≡ true → has m (keep f l) ≡ true
+has-keep f m [] h e = h
+has-keep f m (x ∷ l) h e =
+    byCase (eqb m x)
+    (λ t. rw (← eqb-true m x t, e, self m))
+    (λ t. byCase (f x) (λ u. rw (u, t) (has-keep f m l (rw t at h) e)) (λ u. rw u (has-keep f m l (rw t at h) e)))
+
+pub kept-has : (f : ℕ → Bool) (m : ℕ) (l : List ℕ) → has m (keep f l) ≡ true → f m ≡ true
+kept-has f m [] h = absurd (true≢false (sym h))
+kept-has f m (x ∷ l) h =
+    byCase (f x)
+    (λ u. byCase (eqb m x) (λ t. rw (eqb-true m x t) u) (λ t. kept-has f m l (rw (u, t) at h)))
+    (λ u. kept-has f m l (rw u at h))
+
+pub without-none : (n : ℕ) (l : List ℕ) → has n l ≡ false → without n l ≡ l
+without-none n l h =
+    keep-same (λ m. not (eqb n m)) (λ m. true) l (λ m e. byCase (eqb n m) (λ t. absurd (true≢false (sym e ∙ ap (λ z. has z l) (sym (eqb-true n m t)) ∙ h))) (λ t. rw t))
+    ∙ sym (keep-all (λ m. true) l (λ m. refl))
+
 -- ── in order ──
 pub in-order-self : (l : List ℕ) → InOrder l l
 in-order-self l = keep-all (λ n. true) l (λ n. refl) ∙ sym (keep-same (λ n. has n l) (λ n. true) l (λ n e. e))
@@ -47,6 +66,12 @@ in-order-trans l m o e d =
     e ∙ ap (keep (λ n. has n l)) d ∙ keep-keep (λ n. has n l) (λ n. has n m) o
     ∙ keep-same (λ n. has n m && has n l) (λ n. has n l) o
     (λ n h. byCase (has n m) (λ t. rw t) (λ t. rw (t, in-order-has l m n e t)))
+
+pub in-order-kept : (f : ℕ → Bool) (l : List ℕ) → InOrder (keep f l) l
+in-order-kept f l =
+    keep-same f (λ n. has n (keep f l)) l
+    (λ n h. byCase (f n) (λ t. t ∙ sym (has-keep f n l h t))
+    (λ t. t ∙ byCase (has n (keep f l)) (λ u. absurd (true≢false (sym (kept-has f n l u) ∙ t))) (λ u. sym u)))
 
 -- a first number that is gone
 pub in-order-cons : (n : ℕ) (l m : List ℕ) → has n l ≡ false → InOrder l m → InOrder l (n ∷ m)

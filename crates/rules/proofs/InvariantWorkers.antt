@@ -6,11 +6,11 @@ use mathlib.Core.List.{List, [], _++_, _∷_}
 use lib.ListN.{length}
 use lib.Dec.{leb}
 use lib.IntN.{ℤ}
-use Rattle.rules.specs.Lists.{all, has, sameCase}
+use Rattle.rules.specs.Lists.{has, sameCase}
 use Rattle.rules.specs.Limits.{rowLimit, workerCount}
 use Rattle.rules.specs.Values.{natOf}
 use Rattle.rules.specs.Changes.{follow}
-use Rattle.rules.specs.Tables.{oldest, isOldest, batchOf, Hand, holds, full, replied, handed, Plant, removable, withStore, withRows, withHand, withNear}
+use Rattle.rules.specs.Tables.{oldest, isOldest, batchOf, Hand, holds, full, replied, handed, Plant, withStore, withRows, withHand, withNear}
 use Rattle.rules.specs.Calls.{Fate, arrives, lost, unreached, fateNumber, Take, Delete}
 use Rattle.rules.specs.Conditions.{noRoom}
 use Rattle.rules.specs.Effects.{room, taken, carried, applied, deleted, cut, swept}
@@ -92,11 +92,11 @@ inv-delete {h} {p} w′ ns ws lt f r k i =
     row : has n (p .rows) ≡ true
     row = has-row (p .rows) (p .buffer) (p .hands w) f r (k .hands w lt)
 
-pub inv-sweep : {h : History} {p : Plant} (l : List ℕ) → all (λ n. has n (p .rows) && removable p n) l ≡ true → Inv h p → Inv h (swept l p)
+pub inv-sweep : {h : History} {p : Plant} → Inv h p → Inv h (swept p)
 unfolding swept
-inv-sweep {h} {p} l a i =
+inv-sweep {h} {p} i =
     record {
-      workers = workers-sweep p l a (i .workers);
+      workers = workers-sweep p (i .workers);
       alone = i .alone;
       sessions = i .sessions;
       keys = i .keys;

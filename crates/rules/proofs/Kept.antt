@@ -1,4 +1,4 @@
--- Set-up keeps the rules of the plant, and so does every call with an allowed choice, refused or not.
+-- Set-up keeps the rules of the plant, and so does every call, refused or not.
 use Prim.Native.Nat.{ℕ}
 use native.Mathlib.Omega.{arith}
 use mathlib.Core.Path.{_≡_, refl}
@@ -15,12 +15,12 @@ use Rattle.rules.specs.Refusals.{Refusal, badPlaces, wrongHand, first}
 use Rattle.rules.specs.Values.{below, natOf, inRange, twice}
 use Rattle.rules.specs.Changes.{placeOf, updateOf}
 use Rattle.rules.specs.Tables.{full, replied, Plant, setup}
-use Rattle.rules.specs.Calls.{Pairs, placesOf, fateOf, Call, Load, Map, Begin, Read, Change, Commit, Abandon, Advance, Take, Apply, Delete, Cut, Sweep, Store, Report, Pick}
+use Rattle.rules.specs.Calls.{Pairs, placesOf, fateOf, Call, Load, Map, Begin, Read, Change, Commit, Abandon, Advance, Take, Apply, Delete, Cut, Sweep, Store, Report}
 use Rattle.rules.specs.Conditions.{goodPairs, goodCount, isZero, conditions}
 use Rattle.rules.specs.Effects.{abandoned}
-use Rattle.rules.specs.Step.{accepted, settle, step, Allowed}
+use Rattle.rules.specs.Step.{accepted, settle, step}
 use Rattle.rules.specs.Kept.{keyOk}
-use Rattle.rules.specs.History.{Turn, World, turn, turns, AllAllowed, initial}
+use Rattle.rules.specs.History.{Turn, World, turn, turns, initial}
 use Rattle.rules.proofs.Laws.{not-met, NoneMet, none-met, or-false, and-true, both, below-is}
 use Rattle.rules.proofs.Tests.{all-take}
 use Rattle.rules.proofs.KeptParts.{Kept}
@@ -55,55 +55,55 @@ key-ok n m g t =
     (all-take inRange n (placesOf m) (places-ok m g)))
     (rw t)
 
-kept-accepted : (c : Call) (lent : List ℤ) (pick : Pick) (p : Plant) → NoneMet (conditions c lent p) → Allowed pick p → Kept p
-    → Kept ((accepted c lent pick p) .plant)
+kept-accepted : (c : Call) (lent : List ℤ) (p : Plant) → NoneMet (conditions c lent p) → Kept p
+    → Kept ((accepted c lent p) .plant)
 unfolding accepted conditions abandoned
-kept-accepted (Load d f k v) lent pick p m al i =
+kept-accepted (Load d f k v) lent p m i =
     kept-load (updateOf (placeOf d f) (natOf k) v) (update-ok d f k v (not-false _ (not-met _ _ (m .0)))) (not-met _ _ (m .1 .0)) i
-kept-accepted (Map k n ps) lent pick p m al i =
+kept-accepted (Map k n ps) lent p m i =
     kept-map (natOf k) (take (natOf n) (placesOf ps))
     (key-ok (natOf n) ps (and-true (below k keyCount) (goodPairs ps) (not-false _ (not-met _ _ (m .0))) .1)
     (or-false (not (goodCount n) || any (λ q. not (isZero q)) (drop (natOf n) (placesOf ps))) (twice (take (natOf n) (placesOf ps)))
     (not-met _ badPlaces (m .1 .1 .1 .0)) .1))
     (not-met _ _ (m .1 .0)) i
-kept-accepted Begin lent pick p m al i = kept-begin (not-met _ _ (m .0)) (not-met _ _ (m .1 .0)) i
-kept-accepted (Read s k) lent pick p m al i =
+kept-accepted Begin lent p m i = kept-begin (not-met _ _ (m .0)) (not-met _ _ (m .1 .0)) i
+kept-accepted (Read s k) lent p m i =
     kept-read (natOf s) (natOf k) (below-is k keyCount (not-false _ (not-met _ _ (m .0)))) (not-met _ _ (m .1 .1 .0))
     (not-met _ _ (m .1 .1 .1 .0)) (not-met _ _ (m .1 .1 .1 .1 .1 .0)) i
-kept-accepted (Change s d f k v) lent pick p m al i =
+kept-accepted (Change s d f k v) lent p m i =
     kept-change (natOf s) (updateOf (placeOf d f) (natOf k) v) (not-met _ _ (m .1 .1 .0)) (update-ok d f k v (not-false _ (not-met _ _ (m .0))))
     (not-met _ _ (m .1 .1 .1 .0)) (not-met _ _ (m .1 .1 .1 .1 .0))
     (m .1 .1 .1 .1 .1 .1 .0) i
-kept-accepted (Commit s) lent pick p m al i = kept-commit (natOf s) (not-met _ _ (m .1 .0)) (not-met _ _ (m .1 .1 .0)) i
-kept-accepted (Abandon s) lent pick p m al i = kept-end (natOf s) i
-kept-accepted (Advance n) lent pick p m al i = kept-advance (natOf n) (not-met _ _ (m .1 .0)) i
-kept-accepted (Take w) lent pick p m al i =
+kept-accepted (Commit s) lent p m i = kept-commit (natOf s) (not-met _ _ (m .1 .0)) (not-met _ _ (m .1 .1 .0)) i
+kept-accepted (Abandon s) lent p m i = kept-end (natOf s) i
+kept-accepted (Advance n) lent p m i = kept-advance (natOf n) (not-met _ _ (m .1 .0)) i
+kept-accepted (Take w) lent p m i =
     kept-take (natOf w) (below-is w workerCount (not-false _ (not-met _ _ (m .0)))) (not-met _ _ (m .1 .1 .1 .0)) i
-kept-accepted (Apply w fate) lent pick p m al i =
+kept-accepted (Apply w fate) lent p m i =
     kept-apply (fateOf fate) (natOf w) (below-is w workerCount (and-true _ _ (not-false _ (not-met _ _ (m .0))) .0))
     (not-false _ (or-false _ _ (not-met _ _ (m .1 .0)) .0)) (not-met _ _ (m .1 .1 .1 .0)) i
-kept-accepted (Delete w) lent pick p m al i =
+kept-accepted (Delete w) lent p m i =
     kept-delete (natOf w) (below-is w workerCount (not-false _ (not-met _ _ (m .0)))) (replies .0) (replies .1) i
   where
     replies : (full (p .hands (natOf w)) ≡ true) × (replied (p .hands (natOf w)) ≡ true)
     replies = and-true (full (p .hands (natOf w))) (replied (p .hands (natOf w))) (not-false _ (not-met _ wrongHand (m .1 .0)))
-kept-accepted (Cut w) lent pick p m al i = kept-cut (natOf w) i
-kept-accepted Sweep lent pick p m al i = kept-sweep (pick .swept) (al .removes) i
-kept-accepted (Store n) lent pick p m al i = kept-near (caseOf bit false (true ∷ false ∷ []) (natOf n)) i
-kept-accepted (Report s) lent pick p m al i = i
+kept-accepted (Cut w) lent p m i = kept-cut (natOf w) i
+kept-accepted Sweep lent p m i = kept-sweep i
+kept-accepted (Store n) lent p m i = kept-near (caseOf bit false (true ∷ false ∷ []) (natOf n)) i
+kept-accepted (Report s) lent p m i = i
 
-pub step-keeps : (c : Call) (lent : List ℤ) (pick : Pick) (p : Plant) → Allowed pick p → Kept p → Kept ((step c lent pick p) .plant)
+pub step-keeps : (c : Call) (lent : List ℤ) (p : Plant) → Kept p → Kept ((step c lent p) .plant)
 unfolding step
-step-keeps c lent pick p al k = go (first (conditions c lent p)) refl
+step-keeps c lent p k = go (first (conditions c lent p)) refl
   where
-    go : (o : Option Refusal) → first (conditions c lent p) ≡ o → Kept ((settle o c lent pick p) .plant)
-    go none e = kept-accepted c lent pick p (none-met (conditions c lent p) e) al k
+    go : (o : Option Refusal) → first (conditions c lent p) ≡ o → Kept ((settle o c lent p) .plant)
+    go none e = kept-accepted c lent p (none-met (conditions c lent p) e) k
     go (some r) e = kept-refused c r k
 
 -- so every plant that calls from set-up leave keeps them
-pub turns-keep : (ts : List Turn) (w : World) → AllAllowed ts (w .plant) → Kept (w .plant) → Kept ((turns ts w) .plant)
-turns-keep [] w f k = k
-turns-keep (t ∷ ts) w f k = turns-keep ts (turn t w) (f .1) (step-keeps (t .call) (t .lent) (t .pick) (w .plant) (f .0) k)
+pub turns-keep : (ts : List Turn) (w : World) → Kept (w .plant) → Kept ((turns ts w) .plant)
+turns-keep [] w k = k
+turns-keep (t ∷ ts) w k = turns-keep ts (turn t w) (step-keeps (t .call) (t .lent) (w .plant) k)
 
 pub initial-kept : Kept (initial .plant)
 unfolding initial

@@ -362,4 +362,4 @@ pub setup-is-kept : SetupKept
 setup-is-kept = kept-iff setup .1 setup-kept
 
 pub kept-step : StepKeeps
-kept-step c lent pick p al k = kept-iff ((step c lent pick p) .plant) .1 (step-keeps c lent pick p al (kept-iff p .0 k))
+kept-step c lent p k = kept-iff ((step c lent p) .plant) .1 (step-keeps c lent p (kept-iff p .0 k))

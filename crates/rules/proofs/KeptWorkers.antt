@@ -4,26 +4,27 @@ use native.Mathlib.Omega.{arith}
 use mathlib.Core.Path.{_∙_, _≡_, ap, refl, subst, sym}
 use mathlib.Core.Bool.{Bool, _&&_, false, not, true, true≢false}
 use mathlib.Core.Option.{some}
-use mathlib.Core.Logic.{_⊎_, inl, inr}
+use mathlib.Core.Logic.{inl, inr}
 use mathlib.Core.List.{List, [], _++_, _∷_}
 use lib.ListN.{length, length-append}
 use lib.Dec.{eqb, leb, ltb}
 use borrow.Author.Tests.{eqb-true, le-leb, lt-ltb, not-true}
-use Rattle.rules.specs.Lists.{keep, all, isEmpty, has, sameCase}
+use Rattle.rules.specs.Lists.{isEmpty, has, sameCase}
 use Rattle.rules.specs.Limits.{rowLimit, workerCount, leaseTicks}
 use Rattle.rules.specs.Values.{Stock}
 use Rattle.rules.specs.Changes.{follow}
-use Rattle.rules.specs.Tables.{Batch, numbersOf, isBuffered, oldest, isOldest, batchOf, unbuffer, pending, changesIn, Hand, empty, holds, full, replied, handed, anyHand, Queue, idle, leased, ownedBy, Plant, removable, withStore, withBuffer, withRows, withHand, withQueue, withNear}
+use Rattle.rules.specs.Tables.{Batch, numbersOf, isBuffered, oldest, isOldest, batchOf, unbuffer, pending, changesIn, Hand, empty, holds, full, replied, handed, Queue, idle, leased, ownedBy, Plant, withStore, withBuffer, withRows, withHand, withQueue, withNear}
 use Rattle.rules.specs.Reading.{current}
 use Rattle.rules.specs.Calls.{Fate, arrives, lost, unreached, fateNumber}
 use Rattle.rules.specs.Conditions.{noRoom}
-use Rattle.rules.specs.Effects.{room, taken, carried, applied, ended, orphaned, deleted, cut, swept}
+use Rattle.rules.specs.Effects.{room, taken, carried, applied, ended, orphaned, deleted, cut, removed, swept}
 use Rattle.rules.specs.Kept.{goodNumber, inTime, isFresh, ownerOk, queueOk}
 use Rattle.rules.proofs.Laws.{byCase, and-true, both, pushed-room}
 use Rattle.rules.proofs.Tests.{all-imp, all-snoc, all-keep}
 use Rattle.rules.proofs.Accepts.{run-ok}
 use Rattle.rules.proofs.KeptParts.{CacheKept, SlotsKept, HandOk, Kept}
-use Rattle.rules.proofs.Buffer.{isOldest-oldest, is-oldest, has-row, has-snoc-false, once-snoc, hand-rows, pending-unbuffer, nums-unbuffer, has-keep-false, once-keep, hand-unbuffer, length-keep, not-swept, has-kept, pending-rows, hand-keep, in-any, buffered-nums, not-held, row-room, carried-row}
+use Rattle.rules.proofs.Buffer.{isOldest-oldest, is-oldest, has-row, has-snoc-false, once-snoc, hand-rows, pending-unbuffer, nums-unbuffer, has-keep-false, once-keep, hand-unbuffer, length-keep, pending-rows, hand-keep, in-any, buffered-nums, row-room, carried-row}
+use Rattle.rules.proofs.Sweeping.{rowsLeft, row-stays}
 use Rattle.rules.proofs.KeptTables.{buffer-carry, buffer-delete, buffer-sweep}
 
 pub kept-hands : {p : Plant} (w : ℕ) (h : Hand) (q : Queue) → (w < workerCount → HandOk (p .rows) (p .buffer) h) → queueOk (p .clock) q ≡ true
@@ -172,9 +173,9 @@ kept-delete {p} w lt f r k =
         ))
         (y .1)
 
-pub kept-sweep : {p : Plant} (l : List ℕ) → all (λ n. has n (p .rows) && removable p n) l ≡ true → Kept p → Kept (swept l p)
+pub kept-sweep : {p : Plant} → Kept p → Kept (swept p)
 unfolding swept
-kept-sweep {p} l a k =
+kept-sweep {p} k =
     record {
       store = k .store;
       keys = k .keys;
@@ -183,27 +184,27 @@ kept-sweep {p} l a k =
       fresh =
           all-imp (λ x. isFresh (p .buffer) (p .rows) (x .number)) (λ x. isFresh (p .buffer) rows′ (x .number)) (λ x z. fresh′ (x .number) z)
           (p .slots) (k .fresh);
-      buffer = buffer-sweep (λ n. not (has n l)) in-buffer (k .buffer);
+      buffer = buffer-sweep left in-buffer (k .buffer);
       rows = record {
-        few = omega (arith, length-keep (λ n. not (has n l)) (p .rows), k .rows .few);
-        once = once-keep (λ n. not (has n l)) (p .rows) (k .rows .once);
-        numbers = all-keep (goodNumber (p .next)) (λ n. not (has n l)) (p .rows) (k .rows .numbers);
+        few = omega (arith, length-keep left (p .rows), k .rows .few);
+        once = once-keep left (p .rows) (k .rows .once);
+        numbers = all-keep (goodNumber (p .next)) left (p .rows) (k .rows .numbers);
       };
-      hands = λ w lt. hand-keep (p .rows) rows′ (p .buffer) (p .hands w) (λ n e. stays n (inr (in-any (p .hands) n w lt e))) (k .hands w lt);
+      hands = λ w lt. hand-keep (p .rows) rows′ (p .buffer) (p .hands w) (λ n e. row-stays p n (inr (in-any (p .hands) n w lt e))) (k .hands w lt);
       queue = k .queue;
       clock = k .clock;
       begun = k .begun;
       next = k .next;
     }
   where
-    rows′ : List ℕ
-    rows′ = keep (λ n. not (has n l)) (p .rows)
+    left : ℕ → Bool
+    left n = not (has n (removed p))
 
-    stays : (n : ℕ) → (isBuffered n (p .buffer) ≡ true) ⊎ (anyHand (p .hands) n ≡ true) → has n rows′ ≡ has n (p .rows)
-    stays n h = has-kept l n (p .rows) (not-swept (λ m. has m (p .rows) && removable p m) n l a (not-held p n h))
+    rows′ : List ℕ
+    rows′ = rowsLeft p
 
     in-buffer : (n : ℕ) → has n (numbersOf (p .buffer)) ≡ true → has n rows′ ≡ has n (p .rows)
-    in-buffer n e = stays n (inl (buffered-nums n (p .buffer) ∙ e))
+    in-buffer n e = row-stays p n (inl (buffered-nums n (p .buffer) ∙ e))
 
     same : follow (p .store) (changesIn (pending rows′ (p .buffer))) ≡ current p
     same = ap (λ z. follow (p .store) (changesIn z)) (pending-rows (p .rows) rows′ (p .buffer) in-buffer)
@@ -211,7 +212,7 @@ kept-sweep {p} l a k =
     fresh′ : (m : ℕ) → isFresh (p .buffer) (p .rows) m ≡ true → isFresh (p .buffer) rows′ m ≡ true
     fresh′ m z =
         let y = and-true (not (isBuffered m (p .buffer))) (not (has m (p .rows))) z in
-        both (not (isBuffered m (p .buffer))) (not (has m rows′)) (y .0) (rw (has-keep-false (λ i. not (has i l)) m (p .rows) (not-true _ (y .1))))
+        both (not (isBuffered m (p .buffer))) (not (has m rows′)) (y .0) (rw (has-keep-false left m (p .rows) (not-true _ (y .1))))
 
 pub kept-near : {p : Plant} (b : Bool) → Kept p → Kept (withNear b p)
 kept-near b k =

@@ -10,6 +10,7 @@ pub mod Slots
 pub mod KeptParts
 pub mod Buffer
 pub mod InOrder
+pub mod Sweeping
 pub mod Words
 -- what is claimed of a call on any plant, or needs few of the plant's rules
 pub mod Answered
@@ -43,4 +44,7 @@ pub mod Demand2
 pub mod Answers
 -- the key cached longest ago gives way
 pub mod CacheOrder
+-- a sweep takes what it can, oldest rows first
+pub mod AppliedOnce
+pub mod RowOrder
 pub mod Theorem

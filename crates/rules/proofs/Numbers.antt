@@ -14,7 +14,7 @@ use Rattle.rules.specs.Lists.{all, pairwise, span}
 use Rattle.rules.specs.Limits.{firstSession, lastSession}
 use Rattle.rules.specs.Refusals.{Refusal, endsSession, first}
 use Rattle.rules.specs.Tables.{Plant, setup}
-use Rattle.rules.specs.Calls.{Call, Load, Map, Begin, Read, Change, Commit, Abandon, Advance, Take, Apply, Delete, Cut, Sweep, Store, Report, Answer, refused, fine, Pick}
+use Rattle.rules.specs.Calls.{Call, Load, Map, Begin, Read, Change, Commit, Abandon, Advance, Take, Apply, Delete, Cut, Sweep, Store, Report, Answer, refused, fine}
 use Rattle.rules.specs.Conditions.{conditions}
 use Rattle.rules.specs.Step.{accepted, settle, step}
 use Rattle.rules.specs.History.{Turn, does, initial, exchanges, begunBy, numbersBegun}
@@ -28,42 +28,42 @@ abbrev Moves : List ℕ → ℕ → ℕ → Type 0
 Moves ns before after = ((ns ≡ []) × (after ≡ before)) ⊎ ((ns ≡ before ∷ []) × (after ≡ suc before) × (before ≤ lastSession))
 
 -- a call other than begin answers no session's number
-others : (c : Call) (lent : List ℤ) (pick : Pick) (p : Plant) → ((ns : List ℕ) → begunBy c (fine ns) ≡ [])
-    → ((step c lent pick p) .plant) .next ≡ p .next
-    → Moves (begunBy c ((step c lent pick p) .answer)) (p .next) (((step c lent pick p) .plant) .next)
-others c lent pick p h e = inl (none-begun ((step c lent pick p) .answer), e)
+others : (c : Call) (lent : List ℤ) (p : Plant) → ((ns : List ℕ) → begunBy c (fine ns) ≡ [])
+    → ((step c lent p) .plant) .next ≡ p .next
+    → Moves (begunBy c ((step c lent p) .answer)) (p .next) (((step c lent p) .plant) .next)
+others c lent p h e = inl (none-begun ((step c lent p) .answer), e)
   where
     none-begun : (a : Answer) → begunBy c a ≡ []
     none-begun (refused r) = refl
     none-begun (fine ns) = h ns
 
-begins : (lent : List ℤ) (pick : Pick) (p : Plant)
-    → Moves (begunBy Begin ((step Begin lent pick p) .answer)) (p .next) (((step Begin lent pick p) .plant) .next)
+begins : (lent : List ℤ) (p : Plant)
+    → Moves (begunBy Begin ((step Begin lent p) .answer)) (p .next) (((step Begin lent p) .plant) .next)
 unfolding step accepted
-begins lent pick p = go (first (conditions Begin lent p)) refl
+begins lent p = go (first (conditions Begin lent p)) refl
   where
     go : (o : Option Refusal) → first (conditions Begin lent p) ≡ o
-        → Moves (begunBy Begin ((settle o Begin lent pick p) .answer)) (p .next) (((settle o Begin lent pick p) .plant) .next)
+        → Moves (begunBy Begin ((settle o Begin lent p) .answer)) (p .next) (((settle o Begin lent p) .plant) .next)
     go none e = inr (refl, begin-counts p, begin-fits lent p (none-met (conditions Begin lent p) e))
     go (some r) e = inl (refl, byCase (endsSession r) (λ t. rw t) (λ t. rw t))
 
-moves : (c : Call) (lent : List ℤ) (pick : Pick) (p : Plant)
-    → Moves (begunBy c ((step c lent pick p) .answer)) (p .next) (((step c lent pick p) .plant) .next)
-moves (Load d f k v) lent pick p = others (Load d f k v) lent pick p (λ ns. refl) (ap (λ q. q .next) (writes-only (Load d f k v) lent pick p))
-moves (Map k n m) lent pick p = others (Map k n m) lent pick p (λ ns. refl) (ap (λ q. q .next) (writes-only (Map k n m) lent pick p))
-moves Begin lent pick p = begins lent pick p
-moves (Read s k) lent pick p = others (Read s k) lent pick p (λ ns. refl) (ap (λ q. q .next) (writes-only (Read s k) lent pick p))
-moves (Change s d f k v) lent pick p = others (Change s d f k v) lent pick p (λ ns. refl) (ap (λ q. q .next) (writes-only (Change s d f k v) lent pick p))
-moves (Commit s) lent pick p = others (Commit s) lent pick p (λ ns. refl) (ap (λ q. q .next) (writes-only (Commit s) lent pick p))
-moves (Abandon s) lent pick p = others (Abandon s) lent pick p (λ ns. refl) (ap (λ q. q .next) (writes-only (Abandon s) lent pick p))
-moves (Advance n) lent pick p = others (Advance n) lent pick p (λ ns. refl) (ap (λ q. q .next) (writes-only (Advance n) lent pick p))
-moves (Take w) lent pick p = others (Take w) lent pick p (λ ns. refl) (ap (λ q. q .next) (writes-only (Take w) lent pick p))
-moves (Apply w fate) lent pick p = others (Apply w fate) lent pick p (λ ns. refl) (ap (λ q. q .next) (writes-only (Apply w fate) lent pick p))
-moves (Delete w) lent pick p = others (Delete w) lent pick p (λ ns. refl) (ap (λ q. q .next) (writes-only (Delete w) lent pick p))
-moves (Cut w) lent pick p = others (Cut w) lent pick p (λ ns. refl) (ap (λ q. q .next) (writes-only (Cut w) lent pick p))
-moves Sweep lent pick p = others Sweep lent pick p (λ ns. refl) (ap (λ q. q .next) (writes-only Sweep lent pick p))
-moves (Store n) lent pick p = others (Store n) lent pick p (λ ns. refl) (ap (λ q. q .next) (writes-only (Store n) lent pick p))
-moves (Report s) lent pick p = others (Report s) lent pick p (λ ns. refl) (ap (λ q. q .next) (writes-only (Report s) lent pick p))
+moves : (c : Call) (lent : List ℤ) (p : Plant)
+    → Moves (begunBy c ((step c lent p) .answer)) (p .next) (((step c lent p) .plant) .next)
+moves (Load d f k v) lent p = others (Load d f k v) lent p (λ ns. refl) (ap (λ q. q .next) (writes-only (Load d f k v) lent p))
+moves (Map k n m) lent p = others (Map k n m) lent p (λ ns. refl) (ap (λ q. q .next) (writes-only (Map k n m) lent p))
+moves Begin lent p = begins lent p
+moves (Read s k) lent p = others (Read s k) lent p (λ ns. refl) (ap (λ q. q .next) (writes-only (Read s k) lent p))
+moves (Change s d f k v) lent p = others (Change s d f k v) lent p (λ ns. refl) (ap (λ q. q .next) (writes-only (Change s d f k v) lent p))
+moves (Commit s) lent p = others (Commit s) lent p (λ ns. refl) (ap (λ q. q .next) (writes-only (Commit s) lent p))
+moves (Abandon s) lent p = others (Abandon s) lent p (λ ns. refl) (ap (λ q. q .next) (writes-only (Abandon s) lent p))
+moves (Advance n) lent p = others (Advance n) lent p (λ ns. refl) (ap (λ q. q .next) (writes-only (Advance n) lent p))
+moves (Take w) lent p = others (Take w) lent p (λ ns. refl) (ap (λ q. q .next) (writes-only (Take w) lent p))
+moves (Apply w fate) lent p = others (Apply w fate) lent p (λ ns. refl) (ap (λ q. q .next) (writes-only (Apply w fate) lent p))
+moves (Delete w) lent p = others (Delete w) lent p (λ ns. refl) (ap (λ q. q .next) (writes-only (Delete w) lent p))
+moves (Cut w) lent p = others (Cut w) lent p (λ ns. refl) (ap (λ q. q .next) (writes-only (Cut w) lent p))
+moves Sweep lent p = others Sweep lent p (λ ns. refl) (ap (λ q. q .next) (writes-only Sweep lent p))
+moves (Store n) lent p = others (Store n) lent p (λ ns. refl) (ap (λ q. q .next) (writes-only (Store n) lent p))
+moves (Report s) lent p = others (Report s) lent p (λ ns. refl) (ap (λ q. q .next) (writes-only (Report s) lent p))
 
 -- ── every list of calls ──
 -- numbers that count on from n, to the last at most
@@ -74,7 +74,7 @@ record From (n : ℕ) (ns : List ℕ) : Type 0 where
 from-next : (ts : List Turn) (p : Plant) → From (p .next) (numbersBegun (exchanges ts p))
 from-next [] p = record { counts = refl; ends = refl }
 from-next (t ∷ ts) p =
-    go (begunBy (t .call) ((does t p) .answer)) (moves (t .call) (t .lent) (t .pick) p) (from-next ts ((does t p) .plant))
+    go (begunBy (t .call) ((does t p) .answer)) (moves (t .call) (t .lent) p) (from-next ts ((does t p) .plant))
   where
     go : (ns : List ℕ) → Moves ns (p .next) (((does t p) .plant) .next)
         → From (((does t p) .plant) .next) (numbersBegun (exchanges ts ((does t p) .plant)))

@@ -11,11 +11,11 @@ use Rattle.rules.specs.Lists.{any}
 use Rattle.rules.specs.Limits.{workerCount, leaseTicks, lastTick}
 use Rattle.rules.specs.Refusals.{clockEnd, _⇒_}
 use Rattle.rules.specs.Tables.{full, Queue, idle, leased, ownedBy, Plant}
-use Rattle.rules.specs.Calls.{Advance, Cut, Store, Pick}
+use Rattle.rules.specs.Calls.{Advance, Cut, Store}
 use Rattle.rules.specs.Conditions.{conditions}
 use Rattle.rules.specs.Effects.{lapsedQueue, advanced, orphaned, cut}
 use Rattle.rules.specs.Step.{accepted, step}
-use Rattle.rules.specs.History.{Turn, World, does, turn, turns, AllAllowed}
+use Rattle.rules.specs.History.{Turn, World, does, turn, turns}
 use Rattle.rules.specs.Demand3.{Preparation, cutWorker, bringNear, wait, preparing, isCut, isNear, ticksOf, ticks, callsOf, isFine, NoneRefused}
 use Rattle.rules.proofs.Laws.{byCase, self, or-one, or-zero}
 use Rattle.rules.proofs.Steps.{unmet, step-fine}
@@ -24,14 +24,6 @@ use Rattle.rules.proofs.Steps.{unmet, step-fine}
 pub turns-append : (a b : List Turn) (w : World) → turns (a ++ b) w ≡ turns b (turns a w)
 turns-append [] b w = refl
 turns-append (t ∷ a) b w = turns-append a b (turn t w)
-
-pub allowed-left : (a b : List Turn) (p : Plant) → AllAllowed (a ++ b) p → AllAllowed a p
-allowed-left [] b p f = tt
-allowed-left (t ∷ a) b p f = (f .0, allowed-left a b ((does t p) .plant) (f .1))
-
-pub allowed-right : (a b : List Turn) (w : World) → AllAllowed (a ++ b) (w .plant) → AllAllowed b ((turns a w) .plant)
-allowed-right [] b w f = f
-allowed-right (t ∷ a) b w f = allowed-right a b (turn t w) (f .1)
 
 pub fine-append : (a b : List Turn) (w : World) → NoneRefused a (w .plant) → NoneRefused b ((turns a w) .plant) → NoneRefused (a ++ b) (w .plant)
 fine-append [] b w f g = g
@@ -58,34 +50,34 @@ pub record Prepared (v n : ℕ) (c s : Bool) (p q : Plant) : Type 0 where
   pub hand : full (q .hands v) ≡ cond c false (full (p .hands v))
   pub past : (k : ℕ) → Past (p .queue) k → Past (q .queue) k
 
-pub prepare-advance : (v n : ℕ) (lent : List ℤ) (pick : Pick) (p : Plant) → n ≤ leaseTicks → p .clock + n ≤ lastTick
-    → (isFine ((step (Advance (pos n)) lent pick p) .answer) ≡ true) × Prepared v n false false p ((step (Advance (pos n)) lent pick p) .plant)
+pub prepare-advance : (v n : ℕ) (lent : List ℤ) (p : Plant) → n ≤ leaseTicks → p .clock + n ≤ lastTick
+    → (isFine ((step (Advance (pos n)) lent p) .answer) ≡ true) × Prepared v n false false p ((step (Advance (pos n)) lent p) .plant)
 unfolding conditions accepted advanced _⇒_
-prepare-advance v n lent pick p h t =
-    rw (step-fine (Advance (pos n)) lent pick p (rw (lt-ltb n 65536 (omega arith)), (unmet _ clockEnd (le-ltb lastTick (p .clock + n) t), tt)))
+prepare-advance v n lent p h t =
+    rw (step-fine (Advance (pos n)) lent p (rw (lt-ltb n 65536 (omega arith)), (unmet _ clockEnd (le-ltb lastTick (p .clock + n) t), tt)))
     (refl, record { buffer = refl; clock = refl; near = sym (or-zero (p .near)); hand = refl; past = λ k z. past-lapsed (p .clock + n) (p .queue) k z })
 
-pub prepare-cut : (v : ℕ) (lent : List ℤ) (pick : Pick) (p : Plant) → v < workerCount
-    → (isFine ((step (Cut (pos v)) lent pick p) .answer) ≡ true) × Prepared v 0 true false p ((step (Cut (pos v)) lent pick p) .plant)
+pub prepare-cut : (v : ℕ) (lent : List ℤ) (p : Plant) → v < workerCount
+    → (isFine ((step (Cut (pos v)) lent p) .answer) ≡ true) × Prepared v 0 true false p ((step (Cut (pos v)) lent p) .plant)
 unfolding conditions accepted cut _⇒_
-prepare-cut v lent pick p lt =
-    rw (step-fine (Cut (pos v)) lent pick p (rw (lt-ltb v workerCount lt), tt))
+prepare-cut v lent p lt =
+    rw (step-fine (Cut (pos v)) lent p (rw (lt-ltb v workerCount lt), tt))
     (refl, record { buffer = refl; clock = omega arith; near = sym (or-zero (p .near)); hand = rw (self v); past = λ k z. past-orphaned v (p .queue) k z })
 
-pub prepare-near : (v : ℕ) (lent : List ℤ) (pick : Pick) (p : Plant)
-    → (isFine ((step (Store (pos 1)) lent pick p) .answer) ≡ true) × Prepared v 0 false true p ((step (Store (pos 1)) lent pick p) .plant)
+pub prepare-near : (v : ℕ) (lent : List ℤ) (p : Plant)
+    → (isFine ((step (Store (pos 1)) lent p) .answer) ≡ true) × Prepared v 0 false true p ((step (Store (pos 1)) lent p) .plant)
 unfolding conditions accepted _⇒_
-prepare-near v lent pick p =
-    rw (step-fine (Store (pos 1)) lent pick p (refl, tt))
+prepare-near v lent p =
+    rw (step-fine (Store (pos 1)) lent p (refl, tt))
     (refl, record { buffer = refl; clock = omega arith; near = sym (or-one (p .near)); hand = refl; past = λ k z. z })
 
-pub prepare-step : (v : ℕ) → v < workerCount → (x : Preparation) (lent : List ℤ) (pick : Pick) (p : Plant) → ticksOf x ≤ leaseTicks
+pub prepare-step : (v : ℕ) → v < workerCount → (x : Preparation) (lent : List ℤ) (p : Plant) → ticksOf x ≤ leaseTicks
     → p .clock + ticksOf x ≤ lastTick
-    → (isFine ((step (preparing v x) lent pick p) .answer) ≡ true) × Prepared v (ticksOf x) (isCut x) (isNear x) p
-    ((step (preparing v x) lent pick p) .plant)
-prepare-step v lt cutWorker lent pick p h t = prepare-cut v lent pick p lt
-prepare-step v lt bringNear lent pick p h t = prepare-near v lent pick p
-prepare-step v lt (wait n) lent pick p h t = prepare-advance v n lent pick p h t
+    → (isFine ((step (preparing v x) lent p) .answer) ≡ true) × Prepared v (ticksOf x) (isCut x) (isNear x) p
+    ((step (preparing v x) lent p) .plant)
+prepare-step v lt cutWorker lent p h t = prepare-cut v lent p lt
+prepare-step v lt bringNear lent p h t = prepare-near v lent p
+prepare-step v lt (wait n) lent p h t = prepare-advance v n lent p h t
 
 pub record PreparedAll (v : ℕ) (l : List Preparation) (ts : List Turn) (w : World) : Type 0 where
   pub noneRefused : NoneRefused ts (w .plant)
@@ -123,6 +115,6 @@ prepare-run v lt [] (u ∷ ts) w c h t = absurd (nil≢cons (sym c))
 prepare-run v lt (x ∷ l) [] w c h t = absurd (nil≢cons c)
 prepare-run v lt (x ∷ l) (u ∷ ts) w c h t =
     let s : (isFine ((does u (w .plant)) .answer) ≡ true) × Prepared v (ticksOf x) (isCut x) (isNear x) (w .plant) ((does u (w .plant)) .plant) =
-    rw (head-eq-of-cons-eq c) (prepare-step v lt x (u .lent) (u .pick) (w .plant) (omega arith) (omega arith)) in
+    rw (head-eq-of-cons-eq c) (prepare-step v lt x (u .lent) (w .plant) (omega arith) (omega arith)) in
     let r = prepare-run v lt l ts (turn u w) (tail-eq-of-cons-eq c) (omega arith) (omega (arith, s .1 .clock)) in
     record { noneRefused = (s .0, r .noneRefused); prepared = prepared-then v _ _ _ _ _ _ _ _ _ (s .1) (r .prepared) }

@@ -65,11 +65,11 @@ first-spared (none ∷ l) r a e = first-spared l r (a .1) e
 first-spared (some x ∷ l) r a e = let q : x ≡ r = cc in rw (← q) (not-true (endsSession x) (a .0))
 
 spares : (c : Call) → ((lent : List ℤ) (p : Plant) → EndNone (conditions c lent p)) → Spares c
-spares c a lent pick p r h =
-    let e : endsSession r ≡ false = first-spared (conditions c lent p) r (a lent p) (refused-first c lent pick p r h) in
+spares c a lent p r h =
+    let e : endsSession r ≡ false = first-spared (conditions c lent p) r (a lent p) (refused-first c lent p r h) in
     let n : r ≡ wasDoomed → ⊥ = λ q. true≢false (ap endsSession (sym q) ∙ e) in
     let m : r ≡ exclusiveElsewhere → ⊥ = λ q. true≢false (ap endsSession (sym q) ∙ e) in
-    (n, m, refusals-leave c lent pick p r h n m)
+    (n, m, refusals-leave c lent p r h n m)
 
 pub spares-sessions : SparesSessions
 unfolding conditions

@@ -5,6 +5,7 @@ use Rattle.rules.specs.Orders.{orders}
 use Rattle.rules.specs.Bounds.{bounds}
 use Rattle.rules.specs.Histories.{histories}
 use Rattle.rules.specs.CacheRuns.{cache-runs}
+use Rattle.rules.specs.RowRuns.{row-runs}
 use Rattle.rules.specs.Theorem.{Theorem}
 use Rattle.rules.proofs.Steps.{refusals-leave, three-ends, four-ends}
 use Rattle.rules.proofs.Sessionless.{spares-sessions}
@@ -14,8 +15,9 @@ use Rattle.rules.proofs.Demand3.{demand3}
 use Rattle.rules.proofs.Demand2.{reads-show}
 use Rattle.rules.proofs.Frames.{writes-only, commit-leaves-store, lease-unseen, fills-only}
 use Rattle.rules.proofs.Numbers.{numbers-rise}
-use Rattle.rules.proofs.Answers.{some-pick, answers-count}
-use Rattle.rules.proofs.CacheOrder.{in-read-order, oldest-gives-way, commit-caches-none, clock-leaves-order, only-sweep-chooses}
+use Rattle.rules.proofs.Answers.{answers-count}
+use Rattle.rules.proofs.CacheOrder.{in-read-order, oldest-gives-way, commit-caches-none, clock-leaves-order}
+use Rattle.rules.proofs.RowOrder.{rows-in-order, comes-when-applied, applied-once, in-applied-order, oldest-rows-go}
 
 pub theorem : Theorem
 theorem =
@@ -28,7 +30,6 @@ theorem =
       fillsOnly = fills-only;
       setupKept = setup-is-kept;
       stepKeeps = kept-step;
-      pickExists = some-pick;
       knownAway = known-away;
       storeAway = store-away;
       seenFits = seen-fits;
@@ -41,7 +42,11 @@ theorem =
       oldestGivesWay = oldest-gives-way;
       commitCachesNone = commit-caches-none;
       clockLeavesOrder = clock-leaves-order;
-      onlySweepChooses = only-sweep-chooses;
+      rowsInOrder = rows-in-order;
+      comesWhenApplied = comes-when-applied;
+      appliedOnce = applied-once;
+      inAppliedOrder = in-applied-order;
+      oldestRowsGo = oldest-rows-go;
       demand3 = demand3;
       edges = edges;
       paperRun = paper-run;
@@ -50,4 +55,5 @@ theorem =
       bounds = bounds;
       histories = histories;
       cacheRuns = cache-runs;
+      rowRuns = row-runs;
     }

@@ -1,22 +1,23 @@
 -- The workers' part of the invariant: take, apply, delete, cut, sweep and commit keep it.
 use Prim.Native.Nat.{_<_, ℕ}
 use mathlib.Core.Path.{_∙_, _≡_, ap, refl, subst, sym}
-use mathlib.Core.Bool.{_&&_, cond, false, not, true, true≢false}
-use mathlib.Core.Logic.{_⊎_, inl}
+use mathlib.Core.Bool.{cond, false, true, true≢false}
+use mathlib.Core.Logic.{inl}
 use mathlib.Core.List.{List, [], _++_, _∷_, append-assoc, append-nil}
 use lib.ListN.{length}
 use lib.Dec.{eqb}
 use borrow.Author.Tests.{eqb-true}
-use Rattle.rules.specs.Lists.{keep, all, isEmpty, override, has, without}
+use Rattle.rules.specs.Lists.{isEmpty, override, has, without}
 use Rattle.rules.specs.Limits.{bufferLimit, workerCount}
 use Rattle.rules.specs.Values.{Stock}
 use Rattle.rules.specs.Changes.{Update, follow}
-use Rattle.rules.specs.Tables.{Batch, numbersOf, isBuffered, oldest, isOldest, batchOf, unbuffer, pending, changesIn, Hand, empty, holds, full, handed, anyHand, Plant, removable}
+use Rattle.rules.specs.Tables.{Batch, numbersOf, oldest, isOldest, batchOf, unbuffer, pending, changesIn, Hand, empty, holds, full, handed, Plant}
 use Rattle.rules.specs.Effects.{bufferedAfter}
 use Rattle.rules.specs.History.{changesOf, changesNothing, Committed, whole}
 use Rattle.rules.proofs.Laws.{byCase, follow-append, whole-append, pushed-room, nil-is}
 use Rattle.rules.proofs.KeptParts.{NoRows, BufferKept}
-use Rattle.rules.proofs.Buffer.{nums-append, pending-append, pending-free, has-last, noRows-snoc, pending-unbuffer, nums-unbuffer, not-swept, has-kept, pending-rows, buffered-nums, not-held}
+use Rattle.rules.proofs.Buffer.{nums-append, pending-append, pending-free, has-last, noRows-snoc, pending-unbuffer, nums-unbuffer, pending-rows, buffered-nums}
+use Rattle.rules.proofs.Sweeping.{rowsLeft, row-stays}
 use Rattle.rules.proofs.Invariant.{Owed, Owes, none-owed, skips, owes, Workers}
 
 pub owes-flat : (S : Stock) (l : List Committed) (bs : List Batch) → Owes S l bs → follow S (changesIn bs) ≡ follow S (whole l)
@@ -156,26 +157,21 @@ module _ {start : Stock} {commits : List Committed} {buffered : List ℕ} {noted
         hand = i .hand;
       }
 
-pub workers-sweep : {start : Stock} {commits : List Committed} {buffered : List ℕ} {noted : ℕ → ℕ} (p : Plant) (s : List ℕ)
-    → all (λ n. has n (p .rows) && removable p n) s ≡ true
+pub workers-sweep : {start : Stock} {commits : List Committed} {buffered : List ℕ} {noted : ℕ → ℕ} (p : Plant)
     → Workers start commits buffered noted (p .store) (p .buffer) (p .rows) (p .hands)
-    → Workers start commits buffered noted (p .store) (p .buffer) (keep (λ n. not (has n s)) (p .rows)) (p .hands)
-workers-sweep p s a i =
+    → Workers start commits buffered noted (p .store) (p .buffer) (rowsLeft p) (p .hands)
+workers-sweep p i =
     record {
       done = i .done;
       left = i .left;
       split = i .split;
       stock = i .stock;
       owed =
-          rw (pending-rows (p .rows) (keep (λ n. not (has n s)) (p .rows)) (p .buffer) (λ n e. stays n (inl (buffered-nums n (p .buffer) ∙ e))))
+          rw (pending-rows (p .rows) (rowsLeft p) (p .buffer) (λ n e. row-stays p n (inl (buffered-nums n (p .buffer) ∙ e))))
           (i .owed);
       names = i .names;
       hand = i .hand;
     }
-  where
-    stays : (n : ℕ) → (isBuffered n (p .buffer) ≡ true) ⊎ (anyHand (p .hands) n ≡ true)
-        → has n (keep (λ m. not (has m s)) (p .rows)) ≡ has n (p .rows)
-    stays n h = has-kept s n (p .rows) (not-swept (λ m. has m (p .rows) && removable p m) n s a (not-held p n h))
 
 module _ {start : Stock} {commits : List Committed} {buffered : List ℕ} {noted : ℕ → ℕ} {store : Stock} {buffer : List Batch} {rows : List ℕ} {hands : ℕ → Hand} where
   pub workers-commit : (x : Committed) (cs : List Update) → (isEmpty cs ≡ false → length buffer < bufferLimit) → has (x .number) rows ≡ false

@@ -1,16 +1,16 @@
 -- What the numbers of an answer mean, told by the tables before the call and after it. p is the plant before, q the plant after.
-use Prim.Native.Nat.{_+_, _≤_, ℕ}
+use Prim.Native.Nat.{min, ℕ}
 use mathlib.Core.Path.{_≡_}
 use mathlib.Core.Bool.{Bool, _&&_, cond, false, not, true}
 use mathlib.Core.Logic.{_⊎_}
-use mathlib.Core.List.{List, [], _++_, _∷_}
+use mathlib.Core.List.{List, [], _++_, _∷_, map}
 use lib.ListN.{length}
 use lib.Dec.{leb}
 use lib.IntN.{pos, ℤ}
-use Rattle.rules.specs.Lists.{keep, any, dropAt, has}
-use Rattle.rules.specs.Limits.{cacheLimit, rowLimit, sweepLimit}
+use Rattle.rules.specs.Lists.{keep, dropAt, has, upto}
+use Rattle.rules.specs.Limits.{cacheLimit, rowLimit, sweepLimit, workerCount}
 use Rattle.rules.specs.Changes.{Update, follow}
-use Rattle.rules.specs.Tables.{free, isHeld, isExclusive, documents, Session, hasSlot, session, Cached, isCached, Batch, isBuffered, anyHand, Plant}
+use Rattle.rules.specs.Tables.{free, isHeld, isExclusive, documents, Session, hasSlot, session, Cached, isCached, Batch, numbersOf, isBuffered, handed, Plant}
 use Rattle.rules.specs.Calls.{arrives, lost, unreached, fateNumber, Mark, fromCache, cachedNow, ownChange, Reply, noWord, done, doneBefore}
 
 -- ── begin ──
@@ -79,14 +79,19 @@ Deletes true n before after = (b : Batch) × (b .number ≡ n) × (before ≡ b 
 Deletes false n before after = (isBuffered n before ≡ false) × (after ≡ before)
 
 -- ── sweep ──
--- n rows are gone and none came; a row stays whose session is buffered or in a hand;
--- at most 16 are gone, and at least one if there was one to remove
+-- a row may go whose session is neither buffered nor in a worker's hand; an empty hand gives 0, which is no session's
+abbrev pub mayGo : Plant → ℕ → Bool
+mayGo p m = not (has m (numbersOf (p .buffer))) && not (has m (map (λ w. handed (p .hands w)) (upto workerCount)))
+
+-- n is the smaller of 16 and the rows that may go. The rows are a first part and a rest: of the first part just the n that may go are gone,
+-- and the rest stays
 pub record Sweeps (n : ℕ) (p q : Plant) : Type 0 where
-  pub counted : length (q .rows) + n ≡ length (p .rows)
-  pub noneCame : (m : ℕ) → has m (q .rows) ≡ true → has m (p .rows) ≡ true
-  pub stays : (m : ℕ) → has m (p .rows) ≡ true → (isBuffered m (p .buffer) ≡ true) ⊎ (anyHand (p .hands) m ≡ true) → has m (q .rows) ≡ true
-  pub atMost : n ≤ sweepLimit
-  pub atLeast : any (λ m. not (isBuffered m (p .buffer)) && not (anyHand (p .hands) m)) (p .rows) ≡ true → 1 ≤ n
+  pub number : n ≡ min sweepLimit (length (keep (mayGo p) (p .rows)))
+  pub first : List ℕ
+  pub rest : List ℕ
+  pub split : p .rows ≡ first ++ rest
+  pub gone : length (keep (mayGo p) first) ≡ n
+  pub left : q .rows ≡ keep (λ m. not (mayGo p m)) first ++ rest
 
 -- ── report ──
 -- how many documents the session holds shared, how many exclusive, and how many changes it has

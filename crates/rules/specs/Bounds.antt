@@ -1,7 +1,6 @@
--- Both edges of the limits: the last that is taken and the first that is not. Those of M1 to M12 stand in Edges, those of one refusal alone in Runs.
-use Prim.Native.Nat.{_≤_, ℕ}
+-- Both edges of the limits: the last that is taken and the first that is not. Those of M1 to M12 stand in Edges, those of one refusal alone in Runs, those of cached keys in CacheRuns, those of a sweep in RowRuns.
 use mathlib.Core.Path.{_≡_, refl}
-use mathlib.Core.Bool.{false, true, false≢true}
+use mathlib.Core.Bool.{false, true}
 use mathlib.Core.List.{List, [], _++_, _∷_}
 use lib.ListN.{replicate}
 use lib.IntN.{negsuc, pos}
@@ -12,26 +11,18 @@ use Rattle.rules.specs.Values.{fits32, inRange, absent, number, list, fi
 use Rattle.rules.specs.Changes.{set, unset, inc, add, push, becomes, fails, member, pullFirst, putLast, change, outcomeRefusal, fieldOf, meets, updated, fieldAfter, sets, updateOf}
 use Rattle.rules.specs.Tables.{documents, Plant, setup, withCache, withSlots, withBuffer, withRows, withClock, withNext}
 use Rattle.rules.specs.Reading.{showsIt}
-use Rattle.rules.specs.Calls.{arrives, unreached, Map, Begin, Change, Apply, Sweep, Pick, fine}
+use Rattle.rules.specs.Calls.{arrives, unreached, Map, Begin, Change, Apply}
 use Rattle.rules.specs.Conditions.{conditions}
-use Rattle.rules.specs.Effects.{loaded, mapped, opened, begun, cacheAfter, onlyAt, afterRead, withExclusive, withLast, grant, changed, committed, abandoned, lapses, lapse, loses, isLost, inDocuments, stays, advanced, taken, carried, applied, deleted, cut, swept}
-use Rattle.rules.specs.Step.{accepted, step, Allowed}
+use Rattle.rules.specs.Effects.{loaded, mapped, opened, begun, cacheAfter, onlyAt, afterRead, withExclusive, withLast, grant, changed, committed, abandoned, lapses, lapse, loses, isLost, inDocuments, stays, advanced, taken, carried, applied, deleted, cut}
+use Rattle.rules.specs.Step.{accepted, step}
 use Rattle.rules.specs.Kept.{kept}
-use Rattle.rules.specs.Scenario.{Line, _gets_, yes, says, no, lineOf, noPick, after, Plays, pair, zeros, mapOne, read, edit, advance, takes, apply, delete, cuts, setting, origin, begins, sixteenCached, handWithRows}
+use Rattle.rules.specs.Scenario.{Line, _gets_, yes, says, no, lineOf, after, Plays, pair, zeros, mapOne, read, edit, advance, takes, apply, delete, cuts, setting, origin, begins, sixteenCached, handWithRows}
 use Rattle.rules.specs.Edges.{changing, sixMembers}
-use native.Mathlib.Omega.{arith}
 
 -- a key of all four fields of a document, and session 1
 abbrev pub fourPlaces : List Line
 fourPlaces =
     Map (pos 0) (pos 4) (record { first = pair 0 0; second = pair 0 1; third = pair 0 2; fourth = pair 0 3 }) gets yes ∷ Begin gets says 1 ∷ []
-
--- as many rows as a sweep removes at most, and one more
-abbrev pub withSweepable : Plant
-withSweepable = withRows (span 1 17) (withNext 18 setup)
-
-abbrev pub sweepOf : List ℕ → Pick
-sweepOf l = record { swept = l }
 
 -- sixteen cached keys, eight sessions, 32 buffered ones
 abbrev pub cachedFull : Plant
@@ -92,8 +83,8 @@ pub record Bounds : Type 0 where
       ∷ fieldOk (number highest) ∷ fieldOk (number lowest) ∷ fieldOk (number (pos 2147483648)) ∷ fieldOk (number (negsuc 2147483648)) ∷ fieldOk absent ∷ []
       ≡ true ∷ false ∷ false ∷ true ∷ true ∷ false ∷ false ∷ true ∷ []
   -- four places want 32 words
-  pub words : (lineOf ((step (read 1 0) (replicate 31 (pos 0)) noPick (after fourPlaces setup)) .answer) ≡ no 22)
-      × (lineOf ((step (read 1 0) (replicate 32 (pos 0)) noPick (after fourPlaces setup)) .answer) ≡ says 1)
+  pub words : (lineOf ((step (read 1 0) (replicate 31 (pos 0)) (after fourPlaces setup)) .answer) ≡ no 22)
+      × (lineOf ((step (read 1 0) (replicate 32 (pos 0)) (after fourPlaces setup)) .answer) ≡ says 1)
   -- sums at both ends of 32 bits
   pub sums : (change inc (pos 1) (number (pos 2147483646)) ≡ becomes (number highest))
       × (change inc (negsuc 0) (number (negsuc 2147483646)) ≡ becomes (number lowest))
@@ -132,19 +123,14 @@ pub record Bounds : Type 0 where
   pub buffered : (kept bufferFull ≡ true)
       × (kept (withNext 34 (withBuffer (bufferFull .buffer ++ (record { number = 33; changes = updateOf origin 1 (pos 5) ∷ [] } ∷ [])) bufferFull)) ≡ false)
   pub rowsKept : (kept (withNext 49 (withRows (span 1 48) setup)) ≡ true) × (kept (withNext 50 (withRows (span 1 49) setup)) ≡ false)
+  -- nor with a row twice, the first or a later one
+  pub rowsOnce : (kept (withNext 3 (withRows (1 ∷ 1 ∷ []) setup)) ≡ false) × (kept (withNext 3 (withRows (1 ∷ 2 ∷ 2 ∷ []) setup)) ≡ false)
   pub clockKept : (kept (withClock 99999999999 setup) ≡ true) × (kept (withClock 100000000000 setup) ≡ false)
   pub numbersKept : (kept (withNext 4294967296 setup) ≡ true) × (kept (withNext 4294967297 setup) ≡ false) × (kept (withNext 0 setup) ≡ false)
-  -- a sweep of sixteen rows, and none of seventeen
-  pub sixteen : Allowed (sweepOf (span 2 16)) withSweepable
-      × ((step Sweep [] (sweepOf (span 2 16)) withSweepable) .answer ≡ fine (16 ∷ []))
-      × (((step Sweep [] (sweepOf (span 2 16)) withSweepable) .plant) .rows ≡ 1 ∷ [])
-  pub seventeen : Allowed (sweepOf (span 1 17)) withSweepable → ⊥
-  -- no row twice, nor twice after another
-  pub twiceLater : Allowed (sweepOf (1 ∷ 2 ∷ 2 ∷ [])) withSweepable → ⊥
 
 -- by computing
 pub bounds : Bounds
-unfolding setup step conditions accepted mapped loaded begun afterRead cacheAfter onlyAt changed committed abandoned grant lapse advanced taken applied carried deleted cut swept meets updated change member pullFirst putLast fits32 outcomeRefusal fieldOf fieldAfter pushed _⇒_ documents withLast withExclusive lapses loses isLost inDocuments stays showsIt sets kept
+unfolding setup step conditions accepted mapped loaded begun afterRead cacheAfter onlyAt changed committed abandoned grant lapse advanced taken applied carried deleted cut meets updated change member pullFirst putLast fits32 outcomeRefusal fieldOf fieldAfter pushed _⇒_ documents withLast withExclusive lapses loses isLost inDocuments stays showsIt sets kept
 bounds =
     record {
       changes = refl;
@@ -162,9 +148,7 @@ bounds =
       slots = (refl, refl);
       buffered = (refl, refl);
       rowsKept = (refl, refl);
+      rowsOnce = (refl, refl);
       clockKept = (refl, refl);
       numbersKept = (refl, refl, refl);
-      sixteen = (record { removes = refl; once = refl; atMost = omega arith; atLeast = λ h. refl }, refl, refl);
-      seventeen = λ a. let h : 17 ≤ 16 = a .atMost in omega arith;
-      twiceLater = λ a. false≢true (a .once);
     }

@@ -6,15 +6,15 @@ use mathlib.Core.List.{List, [], _++_, _∷_}
 use lib.ListN.{length}
 use lib.Dec.{eqb}
 use lib.IntN.{ℤ}
-use Rattle.rules.specs.Lists.{keep, any, dropAt, has, without, headOrZero, sameCase, InOrder}
+use Rattle.rules.specs.Lists.{keep, any, dropAt, has, without, headOrZero, InOrder}
 use Rattle.rules.specs.Limits.{cacheLimit}
 use Rattle.rules.specs.Values.{natOf}
 use Rattle.rules.specs.Tables.{Slot, keysOf, Plant}
-use Rattle.rules.specs.Calls.{Call, Load, Map, Begin, Read, Change, Commit, Abandon, Advance, Take, Apply, Delete, Cut, Sweep, Store, Report, callNumber, cachedNow, markNumber, Answer, refused, fine, Pick}
+use Rattle.rules.specs.Calls.{Call, Load, Map, Begin, Read, Change, Commit, Abandon, Advance, Take, Apply, Delete, Cut, Sweep, Store, Report, cachedNow, markNumber, Answer, refused, fine}
 use Rattle.rules.specs.Effects.{lapses}
 use Rattle.rules.specs.Step.{step}
 use Rattle.rules.specs.Kept.{kept}
-use Rattle.rules.specs.History.{Turn, turns, AllAllowed, initial, Exchange, exchanges}
+use Rattle.rules.specs.History.{Turn, initial, leftBy, Exchange, exchanges}
 
 -- ── the order of the reads that cached them ──
 -- a read with mark 1 puts its key last, also one that was cached before
@@ -49,12 +49,9 @@ byReads (e ∷ es) l = byReads es (orderAfterAnswer (e .call) (e .answer) l)
 abbrev pub readOrder : List Turn → List ℕ
 readOrder ts = byReads (exchanges ts (initial .plant)) []
 
-abbrev pub leftBy : List Turn → Plant
-leftBy ts = (turns ts initial) .plant
-
 -- the cached keys stand in that order, whatever the clock did and whatever commits brought up to date
 abbrev pub InReadOrder : Type 0
-InReadOrder = (ts : List Turn) → AllAllowed ts (initial .plant) → InOrder (keysOf ((leftBy ts) .cache)) (readOrder ts)
+InReadOrder = (ts : List Turn) → InOrder (keysOf ((leftBy ts) .cache)) (readOrder ts)
 
 -- of the keys before, the first in the order goes; the others stand in the order, and then the key k
 abbrev pub GivesWay : ℕ → List ℕ → List ℕ → List ℕ → Type 0
@@ -63,26 +60,20 @@ GivesWay k order before after = after ≡ dropAt 0 (keep (λ n. has n before) or
 -- where a read caches its key and sixteen were cached, the one cached longest ago gives way
 abbrev pub OldestGivesWay : Type 0
 OldestGivesWay =
-    (ts : List Turn) → AllAllowed ts (initial .plant) → (s k : ℤ) (lent : List ℤ) (pick : Pick)
-    → (step (Read s k) lent pick (leftBy ts)) .answer ≡ fine (markNumber cachedNow ∷ [])
+    (ts : List Turn) (s k : ℤ) (lent : List ℤ)
+    → (step (Read s k) lent (leftBy ts)) .answer ≡ fine (markNumber cachedNow ∷ [])
     → length ((leftBy ts) .cache) ≡ cacheLimit
-    → GivesWay (natOf k) (readOrder ts) (keysOf ((leftBy ts) .cache)) (keysOf (((step (Read s k) lent pick (leftBy ts)) .plant) .cache))
+    → GivesWay (natOf k) (readOrder ts) (keysOf ((leftBy ts) .cache)) (keysOf (((step (Read s k) lent (leftBy ts)) .plant) .cache))
 
 -- ── of one call ──
 -- bringing keys up to date is not caching them: a commit leaves them in their order, on any plant
 abbrev pub CommitCachesNone : Type 0
 CommitCachesNone =
-    (s : ℤ) (lent : List ℤ) (pick : Pick) (p : Plant) → keysOf (((step (Commit s) lent pick p) .plant) .cache) ≡ keysOf (p .cache)
+    (s : ℤ) (lent : List ℤ) (p : Plant) → keysOf (((step (Commit s) lent p) .plant) .cache) ≡ keysOf (p .cache)
 
 -- whatever the clock: where no session lapses, the cached keys stay as they are; where one does, those left stand in their order
 pub record ClockLeavesOrder : Type 0 where
-  pub noneLapses : (n : ℤ) (lent : List ℤ) (pick : Pick) (p : Plant) → any (λ (s : Slot). lapses (p .clock + natOf n) (s .session)) (p .slots) ≡ false
-      → ((step (Advance n) lent pick p) .plant) .cache ≡ p .cache
-  pub ordered : (n : ℤ) (lent : List ℤ) (pick : Pick) (p : Plant) → kept p ≡ true
-      → InOrder (keysOf (((step (Advance n) lent pick p) .plant) .cache)) (keysOf (p .cache))
-
--- that freedom has ended: no call but a sweep looks at a choice
-abbrev pub OnlySweepChooses : Type 0
-OnlySweepChooses =
-    (c : Call) (lent : List ℤ) (pick other : Pick) (p : Plant) → sameCase callNumber c Sweep ≡ false
-    → step c lent pick p ≡ step c lent other p
+  pub noneLapses : (n : ℤ) (lent : List ℤ) (p : Plant) → any (λ (s : Slot). lapses (p .clock + natOf n) (s .session)) (p .slots) ≡ false
+      → ((step (Advance n) lent p) .plant) .cache ≡ p .cache
+  pub ordered : (n : ℤ) (lent : List ℤ) (p : Plant) → kept p ≡ true
+      → InOrder (keysOf (((step (Advance n) lent p) .plant) .cache)) (keysOf (p .cache))

@@ -14,25 +14,25 @@ use Rattle.rules.specs.Values.{natOf, Place, inRange, fieldOk, showAll}
 use Rattle.rules.specs.Changes.{kindOf, Update, follow, touches, isSet, placeOf, updateOf}
 use Rattle.rules.specs.Tables.{hasSlot, session, freed, Batch, empty, holds, Queue, leased, Plant, setup, withStore, withKeys, withCache, withSlots, withBuffer, withRows, withHand, withQueue, withClock, withNear, withNext}
 use Rattle.rules.specs.Reading.{seen, knownAway, seenAway}
-use Rattle.rules.specs.Calls.{Pairs, Call, Load, Map, Begin, Read, Change, Commit, Abandon, Advance, Take, Apply, Delete, Cut, Sweep, Store, Report, Mark, markNumber, Reply, replyNumber, refused, fine, Pick}
+use Rattle.rules.specs.Calls.{Pairs, Call, Load, Map, Begin, Read, Change, Commit, Abandon, Advance, Take, Apply, Delete, Cut, Sweep, Store, Report, Mark, markNumber, Reply, replyNumber, refused, fine}
 use Rattle.rules.specs.Conditions.{own}
-use Rattle.rules.specs.Step.{step, Allowed}
+use Rattle.rules.specs.Step.{step}
 use Rattle.rules.specs.Kept.{kept}
-use Rattle.rules.specs.History.{changesOf, History, wholeHistory, Turn, turns, AllAllowed, initial, exchanges, numbersBegun}
+use Rattle.rules.specs.History.{changesOf, History, wholeHistory, Turn, turns, initial, leftBy, exchanges, numbersBegun}
 use Rattle.rules.specs.Answers.{Opens, Marks, Buffers, Replies, hasCome, Deletes, Reports, Sweeps}
 
 -- ── demand 1 ──
 -- a refused call leaves the plant and the words, but for refusals 3 and 4
 abbrev pub RefusalsLeave : Type 0
 RefusalsLeave =
-    (c : Call) (lent : List ℤ) (pick : Pick) (p : Plant) (r : Refusal) → (step c lent pick p) .answer ≡ refused r
-    → (r ≡ wasDoomed → ⊥) → (r ≡ exclusiveElsewhere → ⊥) → step c lent pick p ≡ record { answer = refused r; words = lent; plant = p }
+    (c : Call) (lent : List ℤ) (p : Plant) (r : Refusal) → (step c lent p) .answer ≡ refused r
+    → (r ≡ wasDoomed → ⊥) → (r ≡ exclusiveElsewhere → ⊥) → step c lent p ≡ record { answer = refused r; words = lent; plant = p }
 
 -- these end the session s that met them, and leave all else
 abbrev pub Ends : Refusal → Call → ℤ → Type 0
 Ends r c s =
-    (lent : List ℤ) (pick : Pick) (p : Plant) → (step c lent pick p) .answer ≡ refused r
-    → step c lent pick p ≡ record { answer = refused r; words = lent; plant = withSlots (freed (natOf s) (p .slots)) p }
+    (lent : List ℤ) (p : Plant) → (step c lent p) .answer ≡ refused r
+    → step c lent p ≡ record { answer = refused r; words = lent; plant = withSlots (freed (natOf s) (p .slots)) p }
 
 pub record EndsSession (r : Refusal) : Type 0 where
   pub read : (s k : ℤ) → Ends r (Read s k) s
@@ -44,8 +44,8 @@ pub record EndsSession (r : Refusal) : Type 0 where
 -- a call without a session meets neither, so each of its refusals leaves plant and words
 abbrev pub Spares : Call → Type 0
 Spares c =
-    (lent : List ℤ) (pick : Pick) (p : Plant) (r : Refusal) → (step c lent pick p) .answer ≡ refused r
-    → (r ≡ wasDoomed → ⊥) × (r ≡ exclusiveElsewhere → ⊥) × (step c lent pick p ≡ record { answer = refused r; words = lent; plant = p })
+    (lent : List ℤ) (p : Plant) (r : Refusal) → (step c lent p) .answer ≡ refused r
+    → (r ≡ wasDoomed → ⊥) × (r ≡ exclusiveElsewhere → ⊥) × (step c lent p ≡ record { answer = refused r; words = lent; plant = p })
 
 pub record SparesSessions : Type 0 where
   pub load : (d f k v : ℤ) → Spares (Load d f k v)
@@ -79,7 +79,7 @@ Writes (Store n) p q = q ≡ withNear (q .near) p
 Writes (Report s) p q = q ≡ withSlots (q .slots) p
 
 abbrev pub WritesOnly : Type 0
-WritesOnly = (c : Call) (lent : List ℤ) (pick : Pick) (p : Plant) → Writes c p ((step c lent pick p) .plant)
+WritesOnly = (c : Call) (lent : List ℤ) (p : Plant) → Writes c p ((step c lent p) .plant)
 
 -- only a read writes into the caller's memory, and it leaves that as long as it was
 abbrev pub Fills : Call → List ℤ → List ℤ → Type 0
@@ -100,7 +100,7 @@ Fills (Store n) lent ws = ws ≡ lent
 Fills (Report s) lent ws = ws ≡ lent
 
 abbrev pub FillsOnly : Type 0
-FillsOnly = (c : Call) (lent : List ℤ) (pick : Pick) (p : Plant) → Fills c lent ((step c lent pick p) .words)
+FillsOnly = (c : Call) (lent : List ℤ) (p : Plant) → Fills c lent ((step c lent p) .words)
 
 -- ── the plant's rules ──
 abbrev pub SetupKept : Type 0
@@ -109,12 +109,7 @@ SetupKept = kept setup ≡ true
 -- every call keeps them, refused or not
 abbrev pub StepKeeps : Type 0
 StepKeeps =
-    (c : Call) (lent : List ℤ) (pick : Pick) (p : Plant) → Allowed pick p → kept p ≡ true
-    → kept ((step c lent pick p) .plant) ≡ true
-
--- at every plant there is a choice that is allowed
-abbrev pub PickExists : Type 0
-PickExists = (p : Plant) → (pick : Pick) × Allowed pick p
+    (c : Call) (lent : List ℤ) (p : Plant) → kept p ≡ true → kept ((step c lent p) .plant) ≡ true
 
 -- ── demand 2 ──
 -- a field known without the store is found without it
@@ -126,10 +121,10 @@ KnownAway =
 
 -- while the store is away an accepted read shows what is found without it, and a change 3 to 6 has a field that is known without it
 pub record NeedsNoStore (p : Plant) : Type 0 where
-  pub read : (s k : ℤ) (lent : List ℤ) (pick : Pick) (ns : List ℕ) → (step (Read s k) lent pick p) .answer ≡ fine ns
-      → (step (Read s k) lent pick p) .words
+  pub read : (s k : ℤ) (lent : List ℤ) (ns : List ℕ) → (step (Read s k) lent p) .answer ≡ fine ns
+      → (step (Read s k) lent p) .words
       ≡ showAll (map (seenAway (p .keys) (p .cache) (p .buffer) (own s p)) (p .keys (natOf k))) ++ drop (wordsPerField * length (p .keys (natOf k))) lent
-  pub change : (s d f k v : ℤ) (lent : List ℤ) (pick : Pick) (ns : List ℕ) → (step (Change s d f k v) lent pick p) .answer ≡ fine ns
+  pub change : (s d f k v : ℤ) (lent : List ℤ) (ns : List ℕ) → (step (Change s d f k v) lent p) .answer ≡ fine ns
       → isSet (kindOf (natOf k)) ≡ false → knownAway (p .keys) (p .cache) (p .buffer) (own s p) (placeOf d f) ≡ true
 
 abbrev pub StoreAway : Type 0
@@ -148,15 +143,14 @@ ShownBy h s k lent =
 
 abbrev pub ReadsShow : Type 0
 ReadsShow =
-    (ts : List Turn) → AllAllowed ts (initial .plant) → (s k : ℤ) (lent : List ℤ) (pick : Pick) (ns : List ℕ)
-    → (step (Read s k) lent pick ((turns ts initial) .plant)) .answer ≡ fine ns
-    → (step (Read s k) lent pick ((turns ts initial) .plant)) .words ≡ ShownBy ((turns ts initial) .history) s k lent
+    (ts : List Turn) (s k : ℤ) (lent : List ℤ) (ns : List ℕ) → (step (Read s k) lent (leftBy ts)) .answer ≡ fine ns
+    → (step (Read s k) lent (leftBy ts)) .words ≡ ShownBy ((turns ts initial) .history) s k lent
 
 -- a commit does not touch the store
 abbrev pub CommitLeavesStore : Type 0
 CommitLeavesStore =
-    (s : ℤ) (lent : List ℤ) (pick : Pick) (p : Plant)
-    → (((step (Commit s) lent pick p) .plant) .store ≡ p .store) × (((step (Commit s) lent pick p) .plant) .rows ≡ p .rows)
+    (s : ℤ) (lent : List ℤ) (p : Plant)
+    → (((step (Commit s) lent p) .plant) .store ≡ p .store) × (((step (Commit s) lent p) .plant) .rows ≡ p .rows)
 
 -- ── the numbers answered are those of the tables left, and mean what Answers says ──
 abbrev pub Counts : Call → Plant → List ℕ → Plant → Type 0
@@ -188,8 +182,8 @@ Counts (Report s) p ns q = (q ≡ p) × Reports (session (natOf s) (p .slots)) n
 
 abbrev pub AnswersCount : Type 0
 AnswersCount =
-    (c : Call) (lent : List ℤ) (pick : Pick) (p : Plant) (ns : List ℕ) → Allowed pick p → kept p ≡ true
-    → (step c lent pick p) .answer ≡ fine ns → Counts c p ns ((step c lent pick p) .plant)
+    (c : Call) (lent : List ℤ) (p : Plant) (ns : List ℕ) → kept p ≡ true
+    → (step c lent p) .answer ≡ fine ns → Counts c p ns ((step c lent p) .plant)
 
 -- session numbers count from 1 to the last, so that they rise and none is used again
 pub record Rises (ns : List ℕ) : Type 0 where
@@ -204,10 +198,10 @@ NumbersRise = (ts : List Turn) → Rises (numbersBegun (exchanges ts (initial .p
 -- under any other it answers and writes the same
 abbrev pub LeaseUnseen : Type 0
 LeaseUnseen =
-    (w fate : ℤ) (lent : List ℤ) (pick : Pick) (p : Plant) (other : Queue)
-    → step (Apply w fate) lent pick (withQueue other p)
+    (w fate : ℤ) (lent : List ℤ) (p : Plant) (other : Queue)
+    → step (Apply w fate) lent (withQueue other p)
     ≡ record {
-      answer = (step (Apply w fate) lent pick p) .answer;
-      words = (step (Apply w fate) lent pick p) .words;
-      plant = withQueue other ((step (Apply w fate) lent pick p) .plant);
+      answer = (step (Apply w fate) lent p) .answer;
+      words = (step (Apply w fate) lent p) .words;
+      plant = withQueue other ((step (Apply w fate) lent p) .plant);
     }

@@ -12,7 +12,7 @@ use Rattle.rules.specs.Values.{Stock, showAll}
 use Rattle.rules.specs.Changes.{meets, follow}
 use Rattle.rules.specs.Tables.{numbersOf, Plant}
 use Rattle.rules.specs.Calls.{arrives, fateNumber, Call, Advance, Take, Apply, Delete, Cut, Sweep, Store, done, Answer, refused, fine}
-use Rattle.rules.specs.History.{saw, wrote, Page, changesOf, changesNothing, Committed, History, whole, wholeHistory, Turn, World, does, turns, AllAllowed, initial}
+use Rattle.rules.specs.History.{saw, wrote, Page, changesOf, changesNothing, Committed, History, whole, wholeHistory, Turn, World, does, turns, initial}
 
 -- ── committed pages, each at its place ──
 -- a page is right at a stock: its changes meet no refusal, its reads show the stock followed by the changes above them
@@ -102,12 +102,12 @@ pub record Drained (ts : List Turn) (w : World) : Type 0 where
   pub nothingBuffered : ((turns ts w) .plant) .buffer ≡ []
   pub allStored : ((turns ts w) .plant) .store ≡ wholeHistory ((turns ts w) .history)
 
--- whichever worker, whatever is lent, whatever a sweep picks: the preparation and four calls for each buffered page
+-- whichever worker, whatever is lent: the preparation and four calls for each buffered page
 abbrev pub Drains : World → Type 0
 Drains w =
     (v : ℕ) → v < workerCount → (l : List Preparation) → Prepares (w .plant) l
     → (ts us : List Turn) → callsOf ts ≡ map (preparing v) l → callsOf us ≡ rounds v (length ((w .history) .buffered))
-    → AllAllowed (ts ++ us) (w .plant) → Drained (ts ++ us) w
+    → Drained (ts ++ us) w
 
 -- ── the claim ──
 pub record Holds (w : World) : Type 0 where
@@ -117,6 +117,6 @@ pub record Holds (w : World) : Type 0 where
   pub asAlone : AllRight ((w .history) .start) ((w .history) .commits)
   pub drains : Drains w
 
--- after every list of calls from set-up, with any arguments, any words lent and any allowed picks
+-- after every list of calls from set-up, with any arguments and any words lent
 abbrev pub Demand3 : Type 0
-Demand3 = (ts : List Turn) → AllAllowed ts (initial .plant) → Holds (turns ts initial)
+Demand3 = (ts : List Turn) → Holds (turns ts initial)

@@ -3,13 +3,13 @@ use Prim.Native.Nat.{_+_, suc, ℕ}
 use mathlib.Core.Bool.{Bool, _&&_, _||_, cond, false, not, true}
 use mathlib.Core.Option.{none, some}
 use mathlib.Core.List.{List, [], _∷_, map}
-use lib.ListN.{length}
+use lib.ListN.{length, take}
 use lib.Dec.{eqb, leb}
 use Rattle.rules.specs.Lists.{keep, from, any, pushed, isEmpty, dropAt, override, has}
-use Rattle.rules.specs.Limits.{cacheLimit, slotLimit, changeLimit, bufferLimit, rowLimit, leaseTicks, sessionTicks}
+use Rattle.rules.specs.Limits.{cacheLimit, slotLimit, changeLimit, bufferLimit, rowLimit, sweepLimit, leaseTicks, sessionTicks}
 use Rattle.rules.specs.Values.{Place, Stock}
 use Rattle.rules.specs.Changes.{Update, follow, touches}
-use Rattle.rules.specs.Tables.{Lease, free, shared, exclusive, isHeld, hasLapsed, documents, Session, withLeases, doomedSession, Slot, session, each, freed, Cached, isCached, Batch, oldest, batchOf, unbuffer, empty, holds, handed, Queue, idle, leased, ownedBy, Plant, withStore, withKeys, withCache, withSlots, withBuffer, withRows, withHand, withQueue, withClock, withNext}
+use Rattle.rules.specs.Tables.{Lease, free, shared, exclusive, isHeld, hasLapsed, documents, Session, withLeases, doomedSession, Slot, session, each, freed, Cached, isCached, Batch, oldest, batchOf, unbuffer, empty, holds, handed, Queue, idle, leased, ownedBy, Plant, removable, withStore, withKeys, withCache, withSlots, withBuffer, withRows, withHand, withQueue, withClock, withNext}
 use Rattle.rules.specs.Reading.{current, seen}
 use Rattle.rules.specs.Calls.{Fate, arrives, lost, unreached, Mark, fromCache, cachedNow, ownChange, Reply, noWord, done, doneBefore}
 use Rattle.rules.specs.Conditions.{noRoom}
@@ -184,5 +184,9 @@ deleted w p = withBuffer (unbuffer (handed (p .hands w)) (p .buffer)) (withHand 
 unfoldable pub cut : ℕ → Plant → Plant
 cut w p = withHand w empty (withQueue (orphaned w (p .queue)) p)
 
-unfoldable pub swept : List ℕ → Plant → Plant
-swept l p = withRows (keep (λ n. not (has n l)) (p .rows)) p
+-- what a sweep takes: of the rows that it may remove, in the order in which they were applied, the first sixteen
+abbrev pub removed : Plant → List ℕ
+removed p = take sweepLimit (keep (removable p) (p .rows))
+
+unfoldable pub swept : Plant → Plant
+swept p = withRows (keep (λ n. not (has n (removed p))) (p .rows)) p

@@ -1,28 +1,28 @@
 -- The history and demand 3 tried on worked cases: what a list of calls writes, what the drain is asked of, and wrong worlds that demand 3 tells from right ones.
 use Prim.Native.Nat.{ℕ}
 use native.Mathlib.Omega.{arith}
-use mathlib.Core.Path.{_∙_, _≡_, ap, refl, subst, sym}
-use mathlib.Core.Bool.{false, true, false≢true, true≢false}
+use mathlib.Core.Path.{_≡_, ap, refl, subst, sym}
+use mathlib.Core.Bool.{false, true, false≢true}
 use mathlib.Core.List.{List, [], _++_, _∷_, head-eq-of-cons-eq, map, nil≢cons, tail-eq-of-cons-eq}
 use lib.ListN.{replicate}
 use lib.IntN.{negsuc, pos, ℤ}
-use Rattle.rules.specs.Lists.{any, pushed, upto}
+use Rattle.rules.specs.Lists.{pushed, upto}
 use Rattle.rules.specs.Refusals.{_⇒_}
 use Rattle.rules.specs.Values.{fits32, absent, number, Stock}
 use Rattle.rules.specs.Changes.{set, inc, push, Update, follow, member, pullFirst, putLast, change, outcomeRefusal, fieldOf, meets, updated, fieldAfter, sets}
-use Rattle.rules.specs.Tables.{documents, numbersOf, Plant, setup, removable, withBuffer, withClock, withStore}
+use Rattle.rules.specs.Tables.{documents, numbersOf, Plant, setup, withBuffer, withClock, withStore}
 use Rattle.rules.specs.Reading.{showsIt}
 use Rattle.rules.specs.Calls.{arrives, Load, Begin, Change, Abandon, Advance, Take, Apply, Delete, Cut, Sweep, Store}
 use Rattle.rules.specs.Conditions.{conditions}
 use Rattle.rules.specs.Effects.{loaded, mapped, begun, cacheAfter, onlyAt, afterRead, withExclusive, withLast, grant, changed, committed, abandoned, lapses, lapse, loses, isLost, inDocuments, stays, advanced, taken, carried, applied, deleted, cut, swept}
-use Rattle.rules.specs.Step.{accepted, step, Allowed}
+use Rattle.rules.specs.Step.{accepted, step}
 use Rattle.rules.specs.History.{saw, wrote, Page, changesOf, Committed, History, whole, emptyHistory, withCommits, withBuffered, note, Turn, World, turns, initial, exchanges, numbersBegun}
 use Rattle.rules.specs.Demand3.{Right, AllRight, FirstPart, CommitOrder, AllBuffered, Prepares, cutWorker, bringNear, wait, preparing, rounds, NoneRefused, Drained, Holds, Demand3}
-use Rattle.rules.specs.Scenario.{Line, _gets_, yes, says, no, noPick, pair, zeros, mapTwo, read, edit, commit, report, advance, takes, apply, delete, cuts, near, origin, mapOrigin, editOrigin, setting, after, Plays, begins, slow1, latterFirst}
+use Rattle.rules.specs.Scenario.{Line, _gets_, yes, says, no, pair, zeros, mapTwo, read, edit, commit, report, advance, takes, apply, delete, cuts, near, origin, mapOrigin, editOrigin, setting, after, Plays, begins, slow1, latterFirst}
 
--- the turns of a run, with seventeen words lent and no choice
+-- the turns of a run, with seventeen words lent
 abbrev pub turnsOf : List Line → List Turn
-turnsOf = map (λ l. record { call = l .call; lent = replicate 17 (pos 7); pick = noPick })
+turnsOf = map (λ l. record { call = l .call; lent = replicate 17 (pos 7) })
 
 -- the world that a run leaves
 abbrev pub worldOf : List Line → World
@@ -73,11 +73,17 @@ quiet =
 abbrev pub slowDelete : List Line
 slowDelete = slow1 ++ setting 2 1 ++ (takes 1 gets says 2 ∷ apply 0 arrives gets says 2 ∷ delete 0 gets says 0 ∷ [])
 
--- a session committed and carried, with refused calls between, and a sweep of its row, which only the plant that it meets allows
-abbrev pub carriedAndSwept : List Turn
+-- a session committed and carried, with refused calls between, and a sweep of its row
+abbrev pub carriedAndSwept : List Line
 carriedAndSwept =
-    turnsOf (setting 1 1 ++ (commit 1 gets no 2 ∷ takes 4 gets no 1 ∷ takes 0 gets says 1 ∷ apply 0 arrives gets says 1 ∷ delete 0 gets says 1 ∷ []))
-    ++ (record { call = Sweep; lent = []; pick = record { swept = 1 ∷ [] } } ∷ [])
+    setting 1 1
+    ++ (commit 1 gets no 2
+    ∷ takes 4 gets no 1
+    ∷ takes 0 gets says 1
+    ∷ apply 0 arrives gets says 1
+    ∷ delete 0 gets says 1
+    ∷ Sweep gets says 1
+    ∷ [])
 
 -- session 1 buffered, the store away and the clock's last 300 ticks ahead
 abbrev pub lateWorld : World
@@ -172,8 +178,8 @@ pub record Histories : Type 0 where
   -- the last worker, at the clock's end, of a store that is away
   pub drainPlays : Plays (lateWorld .plant) (lateCalls ++ fourOf3)
   pub drains : Holds lateWorld → Drained (turnsOf (lateCalls ++ fourOf3)) lateWorld
-  -- any list, with refused calls and choices in it
-  pub everyList : Demand3 → Holds (turns carriedAndSwept initial)
+  -- any list, with refused calls and a sweep in it
+  pub everyList : Demand3 → Holds (turns (turnsOf carriedAndSwept) initial)
   -- ── what demand 3 rules out ──
   -- a read that shows other words, at once, or without the change above it; a change that meets a refusal, below a read or a change
   pub otherWords : Right nothing (saw (origin ∷ []) (wordsOf 5) ∷ wrote setFive ∷ []) → ⊥
@@ -201,11 +207,6 @@ pub record Histories : Type 0 where
   pub strayPage : Holds (worldWith setup (historyWith (fiveSet ∷ sawNothing ∷ []) [])) → ⊥
 
 -- ── proofs ──
--- without a row to remove no choice is a choice
-none-swept : {p : Plant} → any (removable p) (p .rows) ≡ false → Allowed noPick p
-none-swept e =
-    record { removes = refl; once = refl; atMost = omega arith; atLeast = λ h. absurd (true≢false (sym h ∙ e)) }
-
 number-absent : number (pos 5) ≡ absent → ⊥
 number-absent e = let z : _≡_ {A = ℕ} 0 1 = cc in omega arith
 
@@ -252,9 +253,8 @@ histories =
       drains = λ h.
           h .drains 3 (omega arith) (cutWorker ∷ wait 100 ∷ bringNear ∷ wait 200 ∷ [])
           (record { worker = refl; moves = refl; ticksLeft = omega arith; store = refl })
-          (turnsOf lateCalls) (turnsOf fourOf3) refl refl
-          (none-swept refl, (none-swept refl, (none-swept refl, (none-swept refl, (none-swept refl, (none-swept refl, (none-swept refl, (none-swept refl, tt))))))));
-      everyList = λ d. d carriedAndSwept (none-swept refl, (none-swept refl, (none-swept refl, (none-swept refl, (none-swept refl, (none-swept refl, (none-swept refl, (none-swept refl, (record { removes = refl; once = refl; atMost = omega arith; atLeast = λ h. refl }, tt)))))))));
+          (turnsOf lateCalls) (turnsOf fourOf3) refl refl;
+      everyList = λ d. d (turnsOf carriedAndSwept);
       otherWords = λ r. kinds-differ (sym (r .0));
       oldWords = λ r. kinds-differ (r .1 .0);
       unfitChange = λ r. let z : _≡_ {A = ℕ} 0 1 = cc (r .1 .0) in omega arith;

@@ -15,12 +15,12 @@ use Rattle.rules.specs.Calls.{arrives, lost, unreached, Call, Map, Begin
 use Rattle.rules.specs.Conditions.{conditions}
 use Rattle.rules.specs.Effects.{loaded, mapped, begun, cacheAfter, onlyAt, afterRead, withExclusive, withLast, grant, changed, committed, abandoned, lapses, lapse, loses, isLost, inDocuments, stays, advanced, taken, carried, applied, deleted, cut}
 use Rattle.rules.specs.Step.{accepted, step}
-use Rattle.rules.specs.Scenario.{Line, _gets_, yes, says, no, lineOf, noPick, after, Plays, load, pair, zeros, mapOne, mapTwo, read, edit, commit, report, advance, takes, apply, delete, near, mapOrigin, editOrigin, setting, begins, setsBy, pushes, handWithRows, applied1}
+use Rattle.rules.specs.Scenario.{Line, _gets_, yes, says, no, lineOf, after, Plays, load, pair, zeros, mapOne, mapTwo, read, edit, commit, advance, takes, apply, delete, near, mapOrigin, editOrigin, setting, begins, setsBy, pushes, handWithRows, applied1}
 use Rattle.rules.specs.Edges.{changing}
 
 -- the answer to a call with no word lent, after a run
 abbrev pub wordless : Call → List Line → List ℕ
-wordless c ls = lineOf ((step c [] noPick (after ls setup)) .answer)
+wordless c ls = lineOf ((step c [] (after ls setup)) .answer)
 
 pub record Orders : Type 0 where
   -- load 1, 12, 20, 6, 7, 8: of 6, 7 and 8 no two hold at once, as each is of another kind of field

@@ -1,26 +1,24 @@
 -- More runs worked out from paper 01: each refusal beside calls that are accepted, leases, marks, words, and the workers' calls.
-use Prim.Native.Nat.{_≤_}
 use mathlib.Core.Path.{_≡_, refl}
-use mathlib.Core.Bool.{false, true, false≢true, true≢false}
+use mathlib.Core.Bool.{false, true}
 use mathlib.Core.Option.{none, some}
 use mathlib.Core.List.{List, [], _++_, _∷_, map}
-use lib.ListN.{length, replicate}
+use lib.ListN.{replicate}
 use lib.IntN.{negsuc, pos}
 use Rattle.rules.specs.Lists.{pushed, span}
 use Rattle.rules.specs.Limits.{documentCount, fieldCount, keyCount, placeLimit, memberLimit, cacheLimit, slotLimit, changeLimit, bufferLimit, rowLimit, sweepLimit, workerCount, wordsPerField, leaseTicks, sessionTicks, advanceLimit, lastTick, firstSession, lastSession, highest}
 use Rattle.rules.specs.Refusals.{refusalNumber, outOfRange, noSlot, wasDoomed, exclusiveElsewhere, changesFull, wrongKind, seventhMember, sumTooLarge, keyUndefined, slotsFull, numbersSpent, sessionBegun, keyDefined, badPlaces, bufferFull, queueLeased, wrongHand, nothingBuffered, rowsFull, storeAway, clockEnd, fewWords, badLine, _⇒_}
 use Rattle.rules.specs.Values.{fits32, absent, number, list, show}
 use Rattle.rules.specs.Changes.{set, unset, inc, add, push, pull, becomes, member, pullFirst, putLast, change, outcomeRefusal, fieldOf, meets, updated, fieldAfter, sets}
-use Rattle.rules.specs.Tables.{documents, leased, Plant, setup, removable, withRows, withClock, withNext}
+use Rattle.rules.specs.Tables.{documents, leased, setup, removable, withRows, withClock, withNext}
 use Rattle.rules.specs.Reading.{showsIt}
-use Rattle.rules.specs.Calls.{arrives, lost, unreached, Load, Map, Begin, Read, Change, Commit, Abandon, Advance, Take, Apply, Delete, Cut, Sweep, Store, Report, callNumber, fine, Pick}
+use Rattle.rules.specs.Calls.{arrives, lost, unreached, Load, Map, Begin, Read, Change, Commit, Abandon, Advance, Take, Apply, Delete, Cut, Sweep, Store, Report, callNumber, fine}
 use Rattle.rules.specs.Conditions.{conditions}
 use Rattle.rules.specs.Effects.{loaded, mapped, begun, cacheAfter, onlyAt, afterRead, withExclusive, withLast, grant, changed, committed, abandoned, lapses, lapse, loses, isLost, inDocuments, stays, advanced, taken, carried, applied, deleted, cut, swept}
-use Rattle.rules.specs.Step.{accepted, step, Allowed}
+use Rattle.rules.specs.Step.{accepted, step}
 use Rattle.rules.specs.Kept.{kept}
-use Rattle.rules.specs.Scenario.{Line, _gets_, yes, says, no, lineOf, after, Plays, load, pair, zeros, mapOne, mapTwo, read, edit, commit, report, advance, takes, apply, delete, cuts, near, origin, mapOrigin, editOrigin, setting, noPick, begins, setsBy, pushes, handWithRows, applied1, deleted1, slow1, latterFirst, overtaken}
+use Rattle.rules.specs.Scenario.{Line, _gets_, yes, says, no, lineOf, after, Plays, load, pair, zeros, mapOne, mapTwo, read, edit, commit, report, advance, takes, apply, delete, cuts, near, origin, mapOrigin, editOrigin, setting, begins, setsBy, pushes, handWithRows, applied1, deleted1, slow1, latterFirst, overtaken}
 use Rattle.rules.specs.Edges.{changing}
-use native.Mathlib.Omega.{arith}
 
 -- session 1 in worker 3's hand, applied without a reply, and deleted by worker 0
 abbrev pub lastHand3 : List Line
@@ -165,8 +163,8 @@ pub record Runs : Type 0 where
   -- 9: key undefined
   pub undefined : Plays setup (Begin gets says 1 ∷ read 1 0 gets no 9 ∷ [])
   -- 22: too few words lent
-  pub words : (lineOf ((step (read 1 0) (replicate 7 (pos 0)) noPick (after (mapOrigin gets yes ∷ Begin gets says 1 ∷ []) setup)) .answer) ≡ no 22)
-      × ((step (read 1 0) (replicate 8 (pos 0)) noPick (after (mapOrigin gets yes ∷ Begin gets says 1 ∷ []) setup)) .answer ≡ fine (1 ∷ []))
+  pub words : (lineOf ((step (read 1 0) (replicate 7 (pos 0)) (after (mapOrigin gets yes ∷ Begin gets says 1 ∷ []) setup)) .answer) ≡ no 22)
+      × ((step (read 1 0) (replicate 8 (pos 0)) (after (mapOrigin gets yes ∷ Begin gets says 1 ∷ []) setup)) .answer ≡ fine (1 ∷ []))
   -- 10: eight sessions, none doomed; with all doomed the lowest gives its slot, and is gone
   pub slots : Plays setup
       (begins 8 0
@@ -236,8 +234,6 @@ pub record Runs : Type 0 where
   pub sweeping : (removable (after applied1 setup) 1 ≡ false)
       × (removable (after slow1 setup) 1 ≡ false)
       × (removable (after deleted1 setup) 1 ≡ true)
-      × ((step Sweep [] (record { swept = 1 ∷ [] }) (after deleted1 setup)) .answer ≡ fine (1 ∷ []))
-      × (((step Sweep [] (record { swept = 1 ∷ [] }) (after deleted1 setup)) .plant) .rows ≡ [])
   -- 19: 48 rows and this session has none; with fates 1 and 2 that is no word
   pub rows : Plays (handWithRows 2 48) (apply 0 unreached gets says 0 ∷ apply 0 lost gets says 0 ∷ apply 0 arrives gets no 19 ∷ [])
   pub rowsLeft : Plays (handWithRows 2 47) (apply 0 arrives gets says 1 ∷ [])
@@ -296,7 +292,7 @@ pub record Runs : Type 0 where
       ∷ report 1 gets no 3
       ∷ [])
   -- eight words for each place, in the key's order, with the buffer and the own changes; the words past these stay
-  pub shown : (step (read 2 0) (replicate 17 (pos 9)) noPick (after
+  pub shown : (step (read 2 0) (replicate 17 (pos 9)) (after
       (load 1 0 push (pos 4) gets yes
       ∷ load 1 0 push (pos 7) gets yes
       ∷ mapTwo 0 (pair 1 0) zeros gets yes
@@ -392,7 +388,7 @@ pub record Runs : Type 0 where
       ∷ read 1 0 gets says 0
       ∷ [])
   -- the six changes by their numbers, and what they leave
-  pub six : (step (read 1 0) (replicate 32 (pos 9)) noPick (after
+  pub six : (step (read 1 0) (replicate 32 (pos 9)) (after
       (Load (pos 0) (pos 0) (pos 1) (pos 5) gets yes
       ∷ Load (pos 0) (pos 0) (pos 3) (pos 2) gets yes
       ∷ Load (pos 0) (pos 1) (pos 1) (pos 5) gets yes
@@ -648,8 +644,6 @@ pub record Runs : Type 0 where
       ∷ read 1 0 gets says 0
       ∷ read 1 2 gets says 1
       ∷ [])
-  -- a sweep that may remove a row removes one
-  pub mustSweep : Allowed noPick (after deleted1 setup) → ⊥
   -- the fates by their numbers
   pub fates : Plays setup (setting 1 1 ++ (takes 0 gets says 1 ∷ Apply (pos 0) (pos 2) gets says 0 ∷ Apply (pos 0) (pos 1) gets says 0 ∷ Apply (pos 0) (pos 0) gets says 2 ∷ []))
   -- a member is equal in sign too; set and unset of a list; an add and a push of an absent field
@@ -795,13 +789,9 @@ pub record Runs : Type 0 where
   pub otherHand : (removable (after (deleted1 ++ setting 2 1 ++ (takes 0 gets says 2 ∷ [])) setup) 1 ≡ true)
       × (removable (after latterFirst setup) 2 ≡ false)
       × (removable (after (latterFirst ++ (cuts 0 gets yes ∷ takes 1 gets says 1 ∷ [])) setup) 2 ≡ true)
-  -- a choice of rows: not one that is buffered, not one that does not stand, none twice
-  pub noChoices : (Allowed (record { swept = 1 ∷ [] }) (after applied1 setup) → ⊥)
-      × (Allowed (record { swept = 2 ∷ [] }) (after deleted1 setup) → ⊥)
-      × (Allowed (record { swept = 1 ∷ 1 ∷ [] }) (after deleted1 setup) → ⊥)
   -- a lost apply that finds 48 rows does nothing; a change carried once is shown once, before and after the delete
   pub fullRowsLeave : (after (apply 0 lost gets says 0 ∷ []) (handWithRows 2 48)) .store origin ≡ absent
-  pub shownOnce : (step (read 2 0) (replicate 8 (pos 9)) noPick (after (carriedOnce ++ (Begin gets says 2 ∷ [])) setup)) .words
+  pub shownOnce : (step (read 2 0) (replicate 8 (pos 9)) (after (carriedOnce ++ (Begin gets says 2 ∷ [])) setup)) .words
       ≡ pos 1 ∷ pos 1 ∷ pos 75 ∷ pos 0 ∷ pos 0 ∷ pos 0 ∷ pos 0 ∷ pos 0 ∷ []
   -- a change that is refused 6, 7, 8 or 20 takes no lease, dooms no reader and leaves its session
   pub refusedSpare : Plays setup
@@ -821,15 +811,13 @@ pub record Runs : Type 0 where
       ∷ [])))
   -- an apply carries its own session's changes and no other's; a read shows both
   pub carriesOne : ((after twoBuffered setup) .store origin ≡ number (pos 1))
-      × ((step (read 3 0) (replicate 8 (pos 9)) noPick (after (twoBuffered ++ (Begin gets says 3 ∷ [])) setup)) .words
+      × ((step (read 3 0) (replicate 8 (pos 9)) (after (twoBuffered ++ (Begin gets says 3 ∷ [])) setup)) .words
       ≡ pos 1 ∷ pos 1 ∷ pos 11 ∷ pos 0 ∷ pos 0 ∷ pos 0 ∷ pos 0 ∷ pos 0 ∷ [])
   -- ── the paper's numbers ──
   pub limits : documentCount ∷ fieldCount ∷ keyCount ∷ placeLimit ∷ memberLimit ∷ cacheLimit ∷ slotLimit ∷ changeLimit ∷ bufferLimit ∷ rowLimit
       ∷ workerCount ∷ sweepLimit ∷ wordsPerField ∷ leaseTicks ∷ sessionTicks ∷ advanceLimit ∷ lastTick ∷ firstSession ∷ lastSession ∷ []
       ≡ 64 ∷ 4 ∷ 32 ∷ 4 ∷ 6 ∷ 16 ∷ 8 ∷ 8 ∷ 32 ∷ 48
       ∷ 4 ∷ 16 ∷ 8 ∷ 300 ∷ 1000 ∷ 65535 ∷ 99999999999 ∷ 1 ∷ 4294967295 ∷ []
-  -- the free choice: a sweep takes at most sixteen
-  pub choices : (pick : Pick) (p : Plant) → Allowed pick p → length (pick .swept) ≤ 16
   -- the refusals by their numbers
   pub refusals : map refusalNumber
       (outOfRange ∷ noSlot ∷ wasDoomed ∷ exclusiveElsewhere ∷ changesFull ∷ wrongKind ∷ seventhMember ∷ sumTooLarge ∷ keyUndefined ∷ slotsFull
@@ -870,7 +858,7 @@ runs =
       slow = refl;
       nobodys = refl;
       drained = refl;
-      sweeping = (refl, refl, refl, refl, refl);
+      sweeping = (refl, refl, refl);
       rows = refl;
       rowsLeft = refl;
       rowThere = refl;
@@ -917,7 +905,6 @@ runs =
       nameless = (refl, refl);
       sixShown = refl;
       everyCached = refl;
-      mustSweep = λ a. absurd (true≢false (a .atLeast refl));
       fates = refl;
       signs = (refl, refl, refl, refl, refl);
       replaced = (refl, refl, refl, refl);
@@ -932,13 +919,11 @@ runs =
       lastHand = (refl, refl, refl);
       latter = refl;
       otherHand = (refl, refl, refl);
-      noChoices = (λ a. false≢true (a .removes), λ a. false≢true (a .removes), λ a. false≢true (a .once));
       fullRowsLeave = refl;
       shownOnce = refl;
       refusedSpare = refl;
       carriesOne = (refl, refl);
       limits = refl;
-      choices = λ pick p a. omega (arith, a .atMost);
       refusals = refl;
       numbers = refl;
       computes = (refl, refl);

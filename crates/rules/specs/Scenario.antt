@@ -11,7 +11,7 @@ use Rattle.rules.specs.Refusals.{refusalNumber}
 use Rattle.rules.specs.Values.{Place}
 use Rattle.rules.specs.Changes.{Kind, set, push, kindNumber}
 use Rattle.rules.specs.Tables.{Plant, setup, withRows}
-use Rattle.rules.specs.Calls.{Pair, Fate, arrives, lost, fateNumber, Call, Load, Map, Begin, Read, Change, Commit, Advance, Take, Apply, Delete, Cut, Store, Report, Answer, refused, fine, Result, Pick}
+use Rattle.rules.specs.Calls.{Pair, Fate, arrives, lost, fateNumber, Call, Load, Map, Begin, Read, Change, Commit, Advance, Take, Apply, Delete, Cut, Store, Report, Answer, refused, fine, Result}
 use Rattle.rules.specs.Step.{step}
 
 -- ── a call and its answer line ──
@@ -39,12 +39,9 @@ lineOf (refused r) = refusalNumber r ∷ []
 lineOf (fine ns) = 0 ∷ ns
 
 -- ── runs ──
--- no choice is made in these runs; the longest key's words are lent
-abbrev pub noPick : Pick
-noPick = record { swept = [] }
-
+-- the longest key's words are lent
 abbrev pub alone : Call → Plant → Result
-alone c p = step c (replicate (wordsPerField * placeLimit) (pos 0)) noPick p
+alone c p = step c (replicate (wordsPerField * placeLimit) (pos 0)) p
 
 abbrev pub answers : List Line → Plant → List (List ℕ)
 answers [] p = []

@@ -190,9 +190,12 @@ setup =
       next = firstSession;
     }
 
--- a sweep may remove a row whose session is neither buffered nor in a hand
+-- a row whose session is neither buffered nor in a hand is needed no more, and a sweep may remove it
+abbrev pub unneeded : List Batch → (ℕ → Hand) → ℕ → Bool
+unneeded buffer hands n = not (isBuffered n buffer) && not (anyHand hands n)
+
 abbrev pub removable : Plant → ℕ → Bool
-removable p n = not (isBuffered n (p .buffer)) && not (anyHand (p .hands) n)
+removable p = unneeded (p .buffer) (p .hands)
 
 -- ── the plant with one table replaced ──
 abbrev pub withStore : Stock → Plant → Plant

@@ -1,7 +1,8 @@
 -- All that is claimed of the rules.
 use Rattle.rules.specs.Refusals.{wasDoomed, exclusiveElsewhere}
-use Rattle.rules.specs.Claims.{RefusalsLeave, EndsSession, SparesSessions, WritesOnly, FillsOnly, SetupKept, StepKeeps, PickExists, KnownAway, StoreAway, SeenFits, ReadsShow, CommitLeavesStore, AnswersCount, NumbersRise, LeaseUnseen}
-use Rattle.rules.specs.CacheOrder.{InReadOrder, OldestGivesWay, CommitCachesNone, ClockLeavesOrder, OnlySweepChooses}
+use Rattle.rules.specs.Claims.{RefusalsLeave, EndsSession, SparesSessions, WritesOnly, FillsOnly, SetupKept, StepKeeps, KnownAway, StoreAway, SeenFits, ReadsShow, CommitLeavesStore, AnswersCount, NumbersRise, LeaseUnseen}
+use Rattle.rules.specs.CacheOrder.{InReadOrder, OldestGivesWay, CommitCachesNone, ClockLeavesOrder}
+use Rattle.rules.specs.RowOrder.{RowsInOrder, ComesWhenApplied, AppliedOnce, InAppliedOrder, OldestRowsGo}
 use Rattle.rules.specs.Demand3.{Demand3}
 use Rattle.rules.specs.Edges.{Edges, PaperRun}
 use Rattle.rules.specs.Runs.{Runs}
@@ -9,6 +10,7 @@ use Rattle.rules.specs.Orders.{Orders}
 use Rattle.rules.specs.Bounds.{Bounds}
 use Rattle.rules.specs.Histories.{Histories}
 use Rattle.rules.specs.CacheRuns.{CacheRuns}
+use Rattle.rules.specs.RowRuns.{RowRuns}
 
 pub record Theorem : Type 0 where
   -- demand 1
@@ -21,7 +23,6 @@ pub record Theorem : Type 0 where
   -- the plant's rules
   pub setupKept : SetupKept
   pub stepKeeps : StepKeeps
-  pub pickExists : PickExists
   -- demand 2
   pub knownAway : KnownAway
   pub storeAway : StoreAway
@@ -36,7 +37,12 @@ pub record Theorem : Type 0 where
   pub oldestGivesWay : OldestGivesWay
   pub commitCachesNone : CommitCachesNone
   pub clockLeavesOrder : ClockLeavesOrder
-  pub onlySweepChooses : OnlySweepChooses
+  -- a sweep takes what it can, oldest rows first
+  pub rowsInOrder : RowsInOrder
+  pub comesWhenApplied : ComesWhenApplied
+  pub appliedOnce : AppliedOnce
+  pub inAppliedOrder : InAppliedOrder
+  pub oldestRowsGo : OldestRowsGo
   -- demand 3
   pub demand3 : Demand3
   -- worked examples
@@ -47,3 +53,4 @@ pub record Theorem : Type 0 where
   pub bounds : Bounds
   pub histories : Histories
   pub cacheRuns : CacheRuns
+  pub rowRuns : RowRuns

@@ -1,5 +1,5 @@
 -- `answer` meets its contract.
-use Rattle.call_sweep.proofs.Laws.{away, picks-told}
+use Rattle.call_sweep.proofs.Laws.{away, removed-told}
 use mathlib.Core.Path.{refl}
 use borrow.Author.Needs.{needs}
 use Rattle.call_sweep.proofs.answer.Statement.{statement}
@@ -8,14 +8,14 @@ use Rattle.call_sweep.proofs.answer.Tie as tie
 returns : tie.Need-returns
 returns c = search (away, refl, needs)
 
-pick-requires : tie.Need-pick-requires
-pick-requires c κs = search needs
+removed-requires : tie.Need-removed-requires
+removed-requires c κs = search needs
 
 len-requires : tie.Need-len-requires
 len-requires c κs = search needs
 
 returns-2 : tie.Need-returns-2
-returns-2 c = search (picks-told, refl, needs)
+returns-2 c = search (removed-told, refl, needs)
 
 pub answer-spec : {M : Type 1} → statement M
-answer-spec = tie.close (tie.spec returns pick-requires len-requires returns-2)
+answer-spec = tie.close (tie.spec returns removed-requires len-requires returns-2)

@@ -1,5 +1,5 @@
 -- `Rows::push_unless` meets its contract.
-use Rattle.lists.proofs.Views.{unless-picked, unless-kept}
+use Rattle.lists.proofs.Views.{unless-met, unless-kept}
 use borrow.Author.Needs.{needs}
 use Rattle.rows.proofs.Rows.push_unless.Statement.{statement}
 use Rattle.rows.proofs.Rows.push_unless.Tie as tie
@@ -8,7 +8,7 @@ has-requires : tie.Need-has-requires
 has-requires c κs = search needs
 
 returns : tie.Need-returns
-returns c = (unless-picked _ _ (c .before .has .ensures) _ _ (c .if1 .taken), λ f. f)
+returns c = (unless-met _ _ (c .before .has .ensures) _ _ (c .if1 .taken), λ f. f)
 
 push-requires : tie.Need-push-requires
 push-requires c κs = search needs

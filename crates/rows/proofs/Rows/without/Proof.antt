@@ -11,12 +11,12 @@ use Rattle.rows.proofs.Rows.without.Statement.{statement}
 use Rattle.rows.proofs.Rows.without.Tie as tie
 
 abbrev Inv-loop : tie.InvT-loop
-Inv-loop picks self count kept₀ i₀ kept i =
-    Keeping (λ n. n) (λ n. not (has n (viewRows picks))) count rowLimit (self .numbers) (keep (λ n. not (has n (viewRows picks))) (viewRows self)) (viewRows kept) i
+Inv-loop gone self count kept₀ i₀ kept i =
+    Keeping (λ n. n) (λ n. not (has n (viewRows gone))) count rowLimit (self .numbers) (keep (λ n. not (has n (viewRows gone))) (viewRows self)) (viewRows kept) i
     × (rowsForm kept ≡ true)
 
 abbrev μ-loop : tie.MeasureT-loop
-μ-loop picks self count kept₀ i₀ kept i = rowLimit - i
+μ-loop gone self count kept₀ i₀ kept i = rowLimit - i
 
 cast-count : tie.Need-cast-count Inv-loop μ-loop
 cast-count c = search needs

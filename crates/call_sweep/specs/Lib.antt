@@ -1,2 +1,0 @@
--- What the parts of sweep promise.
-pub mod MayGo
