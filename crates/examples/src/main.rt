@@ -154,6 +154,7 @@ fn limits() {
     example(b"store-away.lines", b"store-away.answers", 27);
     example(b"full-buffer.lines", b"full-buffer.answers", 64);
     example(b"full-rows.lines", b"full-rows.answers", 100);
+    example(b"rows-passed-over.lines", b"rows-passed-over.answers", 29);
 }
 
 fn cached_keys() {
