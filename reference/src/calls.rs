@@ -346,10 +346,9 @@ impl Plant {
         Ok(())
     }
 
-    /// 13 sweep: removes rows whose session is neither buffered nor in a hand. Refusal 20.
-    ///
-    /// Which and how many rows it picks is left free by the paper. Removing as many as allowed, 16
-    /// or all, in the order in which they were applied is one allowed choice.
+    /// 13 sweep: removes rows whose session is neither buffered nor in a hand, exactly the smaller of
+    /// 16 and their number, in the order in which they were applied. Rows that may not go are passed
+    /// over, and all rows left keep their order. Answers how many it removed. Refusal 20.
     pub fn sweep(&mut self) -> Result<u32, Refusal> {
         if !self.near {
             return Err(Refusal::StoreAway);

@@ -1,5 +1,5 @@
-//! A second implementation of the stock cache, written from papers 00 and 01, request (a) of paper 02
-//! and the open points decided for them.
+//! A second implementation of the stock cache, written from papers 00 and 01, requests (a) and (b) of
+//! paper 02 and the open points decided for them.
 
 mod cached;
 pub mod calls;
