@@ -74,6 +74,25 @@ fn check_tables(plant: &Plant) {
     }
 }
 
+/// Request (b) on the tables: of the rows whose session is neither buffered nor in a hand a sweep removes the first
+/// sixteen, or all, and answers their number. An apply that carries puts its row last. All other rows stay in order.
+fn check_rows(call: u8, before: &Plant, after: &Plant) {
+    let mut left = before.rows().to_vec();
+    if call == 13 {
+        let buffered: Vec<u32> = (0..before.buffer_count).map(|at| before.buffered(at).number).collect();
+        let in_hand = before.hands.map(|hand| hand.session);
+        let mut gone = before.rows().to_vec();
+        gone.retain(|row| !buffered.contains(row) && !in_hand.contains(row));
+        gone.truncate(SWEPT);
+        left.retain(|row| !gone.contains(row));
+        assert_eq!(before.clone().sweep(), Ok(gone.len() as u32));
+    }
+    if call == 10 && after.row_count > before.row_count {
+        left.push(after.buffered(0).number);
+    }
+    assert_eq!(after.rows(), left);
+}
+
 /// Demand 3's last sentence: one worker is cut, 300 ticks pass, and it alone brings the store to
 /// the whole history by four calls for each buffered session, none of them refused.
 fn check_recovery(plant: &Plant, worker: i64) {
@@ -105,7 +124,10 @@ fn check_file(seed: u64, lines: u64, profile: Profile) {
         let mut out = [0; LONGEST_ANSWER];
         answer(&mut plant, line, &mut out);
         match &out[..2] {
-            b" 0" => check_tables(&plant),
+            b" 0" => {
+                check_tables(&plant);
+                check_rows(parse(line).unwrap().call, &before, &plant);
+            }
             // 3 and 4 end the session and change nothing that others see.
             b" 3" | b" 4" => {
                 check_tables(&plant);
