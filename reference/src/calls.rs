@@ -523,7 +523,7 @@ impl Plant {
     }
 
     /// Whether the session is buffered or in a hand, so that its row must stay.
-    fn needs_row(&self, session: u32) -> bool {
+    pub(crate) fn needs_row(&self, session: u32) -> bool {
         self.hands.iter().any(|hand| hand.session == session)
             || (0..self.buffer_count).any(|at| self.buffered(at).number == session)
     }

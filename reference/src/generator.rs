@@ -12,6 +12,7 @@ use crate::plant::*;
 use crate::random::Random;
 
 mod hits;
+mod sweeps;
 
 /// What kind of file to write.
 #[derive(Clone, Copy, PartialEq, Eq, Debug)]
@@ -27,6 +28,8 @@ pub enum Profile {
     Late,
     /// The cache full, and reads that tell in which order keys give way.
     Hits,
+    /// Many rows, some of which may not go, and sweeps at and beside sixteen.
+    Sweeps,
 }
 
 impl Profile {
@@ -37,6 +40,7 @@ impl Profile {
             "storm" => Some(Profile::Storm),
             "late" => Some(Profile::Late),
             "hits" => Some(Profile::Hits),
+            "sweeps" => Some(Profile::Sweeps),
             _ => None,
         }
     }
@@ -50,6 +54,7 @@ pub fn generate<W: Write>(to: W, seed: u64, count: u64, profile: Profile) -> io:
         Profile::Mixed => generator.mixed(&MIXED_PHASES)?,
         Profile::Storm => generator.mixed(&STORM_PHASES)?,
         Profile::Hits => generator.hits()?,
+        Profile::Sweeps => generator.sweeps()?,
         Profile::Late => {
             generator.approach_clock_end()?;
             generator.mixed(&MIXED_PHASES)?;

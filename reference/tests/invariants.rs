@@ -165,10 +165,15 @@ fn hits_files() {
     (400..406).for_each(|seed| check_file(seed, 2_000, Profile::Hits));
 }
 
+#[test]
+fn sweeps_files() {
+    (500..506).for_each(|seed| check_file(seed, 2_000, Profile::Sweeps));
+}
+
 /// The same seed gives the same file, another one another, each with as many lines as asked for.
 #[test]
 fn files_follow_from_their_seeds() {
-    for profile in [Profile::Mixed, Profile::Work, Profile::Storm, Profile::Hits] {
+    for profile in [Profile::Mixed, Profile::Work, Profile::Storm, Profile::Hits, Profile::Sweeps] {
         let file = |seed: u64| {
             let mut file = Vec::new();
             generate(&mut file, seed, 500, profile).unwrap();

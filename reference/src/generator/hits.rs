@@ -260,7 +260,7 @@ impl<W: Write> Generator<W> {
     }
 
     /// A new session; with eight slots taken, the one longest open is abandoned for it.
-    fn begin(&mut self) -> io::Result<i64> {
+    pub(super) fn begin(&mut self) -> io::Result<i64> {
         if self.call(3, &[])? == 10 {
             let oldest = self.plant.sessions.iter().map(|session| session.number).min();
             self.call(7, &[i64::from(oldest.unwrap_or(0))])?;
