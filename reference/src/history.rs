@@ -1,7 +1,8 @@
 //! The history of demand 3, kept from calls and their answers alone (paper 01, "The history of demand 3").
 //!
 //! No plant is asked here. An accepted call is noted and its answer held to what the history says;
-//! a refused one notes nothing, except that 3 and 4 end the session's leases.
+//! a refused one notes nothing, except that 3 and 4 end the session's leases. Of refusals those of
+//! apply and sweep are held, because what a sweep left shows in them.
 
 use std::collections::VecDeque;
 use std::fmt;
@@ -40,8 +41,11 @@ pub struct Held {
     pub applies: u64,
     pub carried: u64,
     pub deletes: u64,
+    /// Sweeps that were accepted and rows that they removed, sweeps refused, and applies refused 19.
     pub sweeps: u64,
     pub swept: u64,
+    pub sweeps_refused: u64,
+    pub rows_full: u64,
 }
 
 impl fmt::Display for Held {
@@ -51,7 +55,8 @@ impl fmt::Display for Held {
             "no contradiction: {} lines, {} accepted; {} pages, {} committed, {} of them buffered; \
              {} reads held as answered, {} of them again at their commit; \
              marks held: {} hits, {} misses, {} own; {} keys gave way, {} dropped; {} committed changes; {} reports; \
-             {} takes, {} applies, {} sessions carried, {} deletes, {} sweeps of {} rows",
+             {} takes, {} applies, {} sessions carried, {} deletes; {} sweeps of {} rows, {} refused; \
+             {} applies to full rows refused",
             self.lines,
             self.accepted,
             self.pages,
@@ -71,7 +76,9 @@ impl fmt::Display for Held {
             self.carried,
             self.deletes,
             self.sweeps,
-            self.swept
+            self.swept,
+            self.sweeps_refused,
+            self.rows_full
         )
     }
 }
@@ -136,8 +143,10 @@ struct History {
     /// carried to the store.
     changing: usize,
     carried: usize,
-    /// The rows that stand in the store: one for each session carried, less the swept ones.
-    rows: usize,
+    /// The sessions of the rows that stand in the store, in the order in which they were carried.
+    rows: Vec<usize>,
+    /// Whether the store is near.
+    near: bool,
     clock: i64,
     cached: Cached,
     held: Held,
@@ -204,6 +213,14 @@ fn out_of_range(_: Refusal) -> String {
     "was accepted with a number outside its range".to_string()
 }
 
+/// Holds that an accepted call meets no refusal.
+fn accepted(what: &str, refusal: Option<Refusal>) -> Result<(), String> {
+    match refusal {
+        Some(refusal) => Err(format!("{what} was accepted, but meets refusal {}", refusal.number())),
+        None => Ok(()),
+    }
+}
+
 /// The words that show the places of a read in a stock.
 fn words(places: &[u8], field: impl Fn(u8) -> Field) -> Vec<i64> {
     places.iter().flat_map(|&place| field(place).words()).map(i64::from).collect()
@@ -219,7 +236,8 @@ impl History {
             notes: [None; WORKERS],
             changing: 0,
             carried: 0,
-            rows: 0,
+            rows: Vec::new(),
+            near: true,
             clock: 0,
             cached: Cached::default(),
             held: Held::default(),
@@ -230,8 +248,7 @@ impl History {
         self.held.lines += 1;
         let (refusal, answered) = answer_parts(answer)?;
         if refusal != 0 {
-            self.refused(call, refusal);
-            return Ok(());
+            return self.refused(call, refusal);
         }
         self.held.accepted += 1;
         let Call { call, numbers } =
@@ -259,19 +276,34 @@ impl History {
             11 => self.delete(numbers[0], answered[0]),
             12 => self.cut(numbers[0]),
             13 => self.sweep(answered[0]),
+            14 => self.store(numbers[0]),
             15 => self.report(numbers[0], &answered),
             _ => Ok(()),
         }
     }
 
-    /// Refusals 3 and 4 end the session that met them; its leases are gone.
-    fn refused(&mut self, call: &[u8], refusal: u8) {
+    /// Refusals 3 and 4 end the session that met them; its leases are gone. Those of apply and sweep are held.
+    fn refused(&mut self, call: &[u8], refusal: u8) -> Result<(), String> {
+        let Ok(Call { call, numbers }) = parse(call) else {
+            return Ok(());
+        };
         if refusal == Refusal::Doomed.number() || refusal == Refusal::LeasedExclusive.number() {
-            let session = parse(call).map_or(0, |call| call.numbers[0]);
-            if let Ok(page) = self.open(session) {
+            if let Ok(page) = self.open(numbers[0]) {
                 self.cached.end(page);
             }
         }
+        let due = match call {
+            10 => self.apply_refusal(numbers[0], numbers[1]),
+            13 => self.sweep_refusal(),
+            _ => return Ok(()),
+        };
+        if due.map(Refusal::number) != Some(refusal) {
+            let due = due.map_or("none".to_string(), |due| due.number().to_string());
+            return Err(format!("was refused {refusal}, the history has {due}"));
+        }
+        self.held.sweeps_refused += u64::from(call == 13);
+        self.held.rows_full += u64::from(due == Some(Refusal::RowsFull));
+        Ok(())
     }
 
     /// The places of a mapped key.
@@ -456,44 +488,51 @@ impl History {
         Ok(())
     }
 
-    /// Whether the session of the page was carried to the store.
-    fn was_carried(&self, page: usize) -> bool {
-        self.pages[page].order.is_some_and(|order| order < self.carried)
-    }
-
-    /// Notes that the session of the page is carried, if the store has room for its row.
+    /// Notes that the session of the page is carried: each one once, in commit order.
     fn carry(&mut self, page: usize) -> Result<(), String> {
         if self.pages[page].order != Some(self.carried) {
             return Err(format!("session {} was carried before an older one", page + 1));
         }
         self.carried += 1;
-        self.rows += 1;
+        self.rows.push(page);
         self.held.carried += 1;
         Ok(())
     }
 
-    /// Each session is carried once: a first apply that reaches the store is done, each later one
-    /// done before. The row that tells them apart stays while the session is in a hand.
-    fn apply(&mut self, worker: i64, fate: i64, reply: i64) -> Result<(), String> {
-        let worker = index(worker, WORKERS).map_err(out_of_range)?;
-        let fate = index(fate, 3).map_err(out_of_range)?;
+    /// The refusal that an apply meets: 19 where no room is left for its row, unless the reply is lost or it never
+    /// reached the store.
+    fn apply_refusal(&self, worker: i64, fate: i64) -> Option<Refusal> {
+        let (Ok(worker), Ok(fate)) = (index(worker, WORKERS), index(fate, 3)) else {
+            return Some(Refusal::OutOfRange);
+        };
         let Some(Note { session, replied: false }) = self.notes[worker] else {
-            return Err("apply was accepted without a session in hand that waits for its reply".to_string());
+            return Some(Refusal::WrongHand);
+        };
+        if !self.near {
+            return Some(Refusal::StoreAway);
+        }
+        let full = self.rows.len() >= ROWS && !self.rows.contains(&session);
+        (full && fate == 0).then_some(Refusal::RowsFull)
+    }
+
+    /// The reply is done before if the session's row is there, else done. The row stays while the session is buffered
+    /// or in a hand, so each session is carried once.
+    fn apply(&mut self, worker: i64, fate: i64, reply: i64) -> Result<(), String> {
+        accepted("apply", self.apply_refusal(worker, fate))?;
+        let worker = index(worker, WORKERS).map_err(out_of_range)?;
+        let Some(Note { session, .. }) = self.notes[worker] else {
+            return Err("apply was accepted without a session in hand".to_string());
         };
         self.held.applies += 1;
-        let before = self.was_carried(session);
+        let before = self.rows.contains(&session);
         if fate == 0 {
             let due = if before { DONE_BEFORE } else { DONE };
             equal("apply", reply, usize::from(due))?;
-            if !before && self.rows >= ROWS {
-                return Err(format!("apply was done with {ROWS} rows and none of the session"));
-            }
             self.notes[worker] = Some(Note { session, replied: true });
         } else {
             equal("apply without a reply", reply, usize::from(NO_WORD))?;
         }
-        let reached = fate != 2 && self.rows < ROWS;
-        if reached && !before {
+        if fate != 2 && !before && self.rows.len() < ROWS {
             self.carry(session)?;
         }
         Ok(())
@@ -520,22 +559,28 @@ impl History {
         Ok(())
     }
 
-    /// Which rows a sweep picks is free, so only its count can be held: at most 16, at least one if
-    /// there is one, and no row of a session that is buffered or in a hand.
+    fn sweep_refusal(&self) -> Option<Refusal> {
+        (!self.near).then_some(Refusal::StoreAway)
+    }
+
+    /// Request (b): of the rows whose session is neither buffered nor in a hand exactly the first sixteen go, or all.
     fn sweep(&mut self, removed: i64) -> Result<(), String> {
+        accepted("sweep", self.sweep_refusal())?;
         let noted = self.notes.iter().flatten().map(|note| note.session);
-        let mut needed: Vec<usize> = self.buffered.iter().copied().chain(noted).collect();
-        needed.retain(|&page| self.was_carried(page));
-        needed.sort_unstable();
-        needed.dedup();
-        let free = self.rows - needed.len();
-        let most = free.min(SWEPT) as i64;
-        if !(most.min(1)..=most).contains(&removed) {
-            return Err(format!("sweep removed {removed} rows, {free} may be removed"));
+        let needed: Vec<usize> = self.buffered.iter().copied().chain(noted).collect();
+        let may_go: Vec<usize> = self.rows.iter().copied().filter(|page| !needed.contains(page)).collect();
+        let gone = &may_go[..may_go.len().min(SWEPT)];
+        if removed != gone.len() as i64 {
+            return Err(format!("sweep removed {removed} rows, but {} of {} may go", may_go.len(), self.rows.len()));
         }
-        self.rows -= removed as usize;
+        self.rows.retain(|page| !gone.contains(page));
         self.held.sweeps += 1;
-        self.held.swept += removed as u64;
+        self.held.swept += gone.len() as u64;
+        Ok(())
+    }
+
+    fn store(&mut self, near: i64) -> Result<(), String> {
+        self.near = index(near, 2).map_err(out_of_range)? == 1;
         Ok(())
     }
 

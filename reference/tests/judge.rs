@@ -72,6 +72,8 @@ fn a_right_dialogue_is_held() {
         deletes: 2,
         sweeps: 3,
         swept: 1,
+        sweeps_refused: 0,
+        rows_full: 0,
     };
     assert_eq!(judged(DIALOGUE), Ok(held));
     assert_eq!(judged::<&str>(&[]), Ok(Held::default()));
@@ -124,6 +126,13 @@ fn a_tampered_dialogue_is_refused() {
         (21, "0 1", 21),
         (24, "0 0", 24),
         (24, "0 2", 24),
+        (24, "0 16", 24),
+        (24, "0 -1", 24),
+        // Sweep and apply refused without reason.
+        (24, "20", 24),
+        (24, "17", 24),
+        (22, "19", 22),
+        (15, "19", 15),
         // The clock.
         (16, "0 299", 16),
         // No refusals.
@@ -326,6 +335,114 @@ fn sessions_that_hold_nothing_drop_nothing() {
     last_mark_is_held(&[&refused[..], &[("4 3 15", "0 0")]].concat());
 }
 
+fn owned(dialogue: &[(&str, &str)]) -> Vec<(String, String)> {
+    dialogue.iter().map(|(call, answer)| (call.to_string(), answer.to_string())).collect()
+}
+
+/// The session begins, makes a change and commits; nothing else is buffered.
+fn committed(session: u64) -> Vec<(String, String)> {
+    owned(&[("3", &format!("0 {session}")), (&format!("5 {session} 0 0 3 1"), "0 1"), (&format!("6 {session}"), "0 1")])
+}
+
+/// Sessions from the first to the last, each committed, carried and deleted by worker 0: their rows may go.
+fn carried(first: u64, last: u64) -> Vec<(String, String)> {
+    let carry = |session| owned(&[("9 0", &format!("0 {session}")), ("10 0 0", "0 1"), ("11 0", "0 1")]);
+    (first..=last).flat_map(|session| [committed(session), carry(session)].concat()).collect()
+}
+
+/// The session is in the hand of worker 1, which heard nothing; worker 0 deleted it after the first 300 ticks.
+fn carried_past(session: u64) -> Vec<(String, String)> {
+    let taken = format!("0 {session}");
+    let slow = [("9 1", &taken[..]), ("10 1 1", "0 0"), ("8 300", "0 300")];
+    let quick = [("9 0", &taken[..]), ("10 0 0", "0 2"), ("11 0", "0 1")];
+    [committed(session), owned(&slow), owned(&quick)].concat()
+}
+
+/// The dialogue and then these lines are held, but refused at the last line with each of the wrong answers there.
+fn last_answer_is_held(dialogue: &[(String, String)], lines: &[(&str, &str)], wrong: &[&str]) {
+    let mut whole = [dialogue, &owned(lines)[..]].concat();
+    assert!(judged(&whole).is_ok(), "{lines:?}: {:?}", judged(&whole));
+    let last = whole.len() as u64;
+    for answer in wrong {
+        whole.last_mut().unwrap().1 = answer.to_string();
+        assert_eq!(judged(&whole), Err(last), "{lines:?} with {answer}");
+    }
+}
+
+#[test]
+fn the_number_of_rows_removed_is_held() {
+    for (rows, due) in [(0, 0), (1, 1), (2, 2), (15, 15), (16, 16), (17, 16), (18, 16), (32, 16), (48, 16)] {
+        for removed in [0, 1, 2, 14, 15, 16, 17, 18, 32, 48] {
+            let mut dialogue = carried(1, rows);
+            dialogue.push(("13".to_string(), format!("0 {removed}")));
+            let expected = if removed == due { None } else { Some(6 * rows + 1) };
+            assert_eq!(judged(&dialogue).err(), expected, "{removed} of {rows} rows");
+        }
+    }
+    // What is left counts on: the second sweep takes the rest, a third nothing.
+    let seventeen = carried(1, 17);
+    last_answer_is_held(&seventeen, &[("13", "0 16"), ("13", "0 1")], &["0 0", "0 2", "0 16"]);
+    last_answer_is_held(&seventeen, &[("13", "0 16"), ("13", "0 1"), ("13", "0 0")], &["0 1", "0 16"]);
+}
+
+/// A row in a slow worker's hand and one that is still buffered are neither removed nor counted.
+#[test]
+fn rows_that_may_not_go_are_held() {
+    let dialogue = [carried(1, 3), carried_past(4), carried(5, 18), committed(19)].concat();
+    let applied = [("9 2", "0 19"), ("10 2 0", "0 1")];
+    // 17 of 19 may go: 1 to 3 and 5 to 18.
+    last_answer_is_held(&dialogue, &[&applied[..], &[("13", "0 16")]].concat(), &["0 3", "0 15", "0 17"]);
+    let swept = [&applied[..], &[("13", "0 16"), ("13", "0 1"), ("13", "0 0")]].concat();
+    last_answer_is_held(&dialogue, &swept, &["0 1", "0 2"]);
+    // Both rows are there still: done before, and the applied one goes with its delete.
+    last_answer_is_held(&dialogue, &[&swept[..], &[("10 1 0", "0 2")]].concat(), &["0 1", "0 0", "19"]);
+    let replied = [&swept[..], &[("10 1 0", "0 2"), ("13", "0 0")]].concat();
+    last_answer_is_held(&dialogue, &replied, &["0 1"]);
+    last_answer_is_held(&dialogue, &[&replied[..], &[("11 1", "0 0"), ("13", "0 1")]].concat(), &["0 0", "0 2"]);
+    last_answer_is_held(&dialogue, &[&replied[..], &[("12 1", "0"), ("13", "0 1")]].concat(), &["0 0", "0 2"]);
+    last_answer_is_held(&dialogue, &[&replied[..], &[("12 2", "0"), ("13", "0 0")]].concat(), &["0 1"]);
+    last_answer_is_held(&dialogue, &[&replied[..], &[("11 2", "0 1"), ("13", "0 1")]].concat(), &["0 0", "0 2"]);
+}
+
+/// How many rows stand shows in 19: a sweep makes room for as many as it removed.
+#[test]
+fn a_full_table_is_held() {
+    let full = [carried(1, 48), committed(49)].concat();
+    let taken = ("9 0", "0 49");
+    last_answer_is_held(&full, &[taken, ("10 0 0", "19")], &["0 0", "0 1", "0 2", "17", "20"]);
+    last_answer_is_held(&full, &[taken, ("10 0 1", "0 0"), ("10 0 0", "19")], &["0 1", "0 2"]);
+    last_answer_is_held(&full, &[taken, ("10 0 1", "0 0")], &["19", "0 1"]);
+    last_answer_is_held(&full, &[taken, ("10 0 2", "0 0")], &["19", "0 1"]);
+    last_answer_is_held(&full, &[taken, ("13", "0 16"), ("10 0 0", "0 1")], &["0 2", "19"]);
+    last_answer_is_held(&full, &[taken, ("14 0", "0"), ("10 0 0", "20")], &["19", "17", "0 1"]);
+    last_answer_is_held(&full, &[taken, ("14 0", "0"), ("10 0 2", "20")], &["19", "0 0"]);
+    last_answer_is_held(&full, &[taken, ("10 1 0", "17")], &["19", "1", "20", "0 1"]);
+    last_answer_is_held(&full, &[taken, ("10 0 3", "1")], &["19", "17", "0 0"]);
+    // The sixteenth session after the sweep has room, the seventeenth has none.
+    let swept = owned(&[("13", "0 16"), taken, ("10 0 0", "0 1"), ("11 0", "0 1")]);
+    let again = [full, swept, carried(50, 63)].concat();
+    let sixteenth = [again.clone(), committed(64)].concat();
+    last_answer_is_held(&sixteenth, &[("9 0", "0 64"), ("10 0 0", "0 1")], &["19"]);
+    let seventeenth = [again, carried(64, 64), committed(65)].concat();
+    last_answer_is_held(&seventeenth, &[("9 0", "0 65"), ("10 0 0", "19")], &["0 1", "0 2"]);
+    // With its own row a session is done before, also where no room is left.
+    let own = [carried(1, 47), committed(48)].concat();
+    last_answer_is_held(&own, &[("9 0", "0 48"), ("10 0 1", "0 0"), ("10 0 0", "0 2")], &["19", "0 1"]);
+}
+
+#[test]
+fn a_sweep_without_the_store_is_refused() {
+    let dialogue = carried(1, 17);
+    let away = ("14 0", "0");
+    last_answer_is_held(&dialogue, &[away, ("13", "20")], &["0 0", "0 16", "1", "18"]);
+    last_answer_is_held(&dialogue, &[away, ("13", "20"), ("14 1", "0"), ("13", "0 16")], &["20", "0 1", "0 0"]);
+    last_answer_is_held(&dialogue, &[("14 1", "0"), ("13", "0 16")], &["20", "23"]);
+    last_answer_is_held(&dialogue, &[("14 2", "1"), ("13", "0 16")], &["20"]);
+    assert_eq!(judged(&[("14 2", "0")]), Err(1));
+    // A line that is no sweep is not held as one.
+    last_answer_is_held(&dialogue, &[("13 1", "23"), ("13", "0 16")], &["0 17"]);
+}
+
 fn generated(seed: u64, lines: u64, profile: Profile) -> (Vec<u8>, Vec<u8>) {
     let (mut calls, mut answers) = (Vec::new(), Vec::new());
     generate(&mut calls, seed, lines, profile).unwrap();
@@ -335,7 +452,7 @@ fn generated(seed: u64, lines: u64, profile: Profile) -> (Vec<u8>, Vec<u8>) {
 
 #[test]
 fn generated_files_are_held() {
-    for profile in [Profile::Mixed, Profile::Work, Profile::Storm, Profile::Hits] {
+    for profile in [Profile::Mixed, Profile::Work, Profile::Storm, Profile::Hits, Profile::Sweeps] {
         for seed in 1..6 {
             let (calls, answers) = generated(seed, 5_000, profile);
             let held = judge(&calls, &answers).unwrap_or_else(|contradiction| panic!("{seed}: {contradiction}"));
@@ -354,18 +471,15 @@ fn each_tampered_number_is_refused() {
         (4, Profile::Storm),
         (5, Profile::Hits),
         (6, Profile::Hits),
+        (7, Profile::Sweeps),
+        (8, Profile::Sweeps),
     ];
     for (seed, profile) in files {
         let (calls, answers) = generated(seed, 700, profile);
-        let calls_apart: Vec<&[u8]> = calls.split(|&byte| byte == b'\n').collect();
         let answers_apart: Vec<&[u8]> = answers.strip_suffix(b"\n").unwrap().split(|&byte| byte == b'\n').collect();
         let mut tampered_numbers = 0;
         for (at, answer) in answers_apart.iter().enumerate() {
             let numbers = answer.len() / 12;
-            // Not sweep's count, of which the history knows the limits only.
-            if calls_apart[at].starts_with(b"13") {
-                continue;
-            }
             for number in 0..numbers {
                 let columns = 2 + 12 * number..14 + 12 * number;
                 let text = std::str::from_utf8(&answer[columns.clone()]).unwrap();
