@@ -17,7 +17,7 @@ use Rattle.plant.specs.View.{viewPlant, plantForm, keptPlant}
 use Rattle.plant.specs.declared.Plant.{Plant}
 use Rattle.calls.specs.View.{viewCall}
 use Rattle.entry.specs.Demand3.{Event, Runs, left, turnsOf}
-use Rattle.entry.specs.RowOrder.{SweepTakes, RowsInOrder, ComesWhenApplied, appliedIn, AppliedOnce, InAppliedOrder, OldestRowsGo}
+use Rattle.entry.specs.RowOrder.{SweepTakes, RowsInOrder, ComesWhenApplied, StoreStaysElse, appliedIn, AppliedOnce, InAppliedOrder, OldestRowsGo}
 use Rattle.entry.proofs.Demand3.{from-setup}
 
 pub sweep-takes : SweepTakes
@@ -36,6 +36,11 @@ comes-when-applied c lent p a words q k r n h =
     let was = and-true (plantForm p) (kept (viewPlant p)) k .1 in
     subst (Carries n (viewPlant p)) (sym (r .leaves))
     (R.comes-when-applied (viewCall c) lent (viewPlant p) n was (subst (λ (z : M.Plant). has n (came (viewPlant p .rows) (z .rows)) ≡ true) (r .leaves) h))
+
+pub store-stays-else : StoreStaysElse
+store-stays-else c lent p a words q r b h =
+    ap (λ (z : M.Plant). z .store) (r .leaves)
+    ∙ R.store-stays-else (viewCall c) lent (viewPlant p) b (subst (λ (z : M.Plant). came (viewPlant p .rows) (z .rows) ≡ []) (r .leaves) h)
 
 -- the sessions applied are those of the turns
 same-order : (p : Plant) (es : List Event) → keptPlant p ≡ true → Runs p es → appliedFrom (turnsOf es) (viewPlant p) ≡ appliedIn p es

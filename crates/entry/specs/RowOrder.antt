@@ -8,6 +8,7 @@ use lib.IntN.{ℤ}
 use Rattle.rules.specs.Lists.{has, isOnce, InOrder}
 use Rattle.rules.specs.Tables as M
 use Rattle.rules.specs.Calls as C
+use Rattle.rules.specs.Conditions.{everBegun}
 use Rattle.rules.specs.Answers.{Carries, Sweeps}
 use Rattle.rules.specs.RowOrder.{came, StandInOrder, TakesOldest}
 use Rattle.plant.specs.View.{viewPlant, keptPlant}
@@ -37,6 +38,12 @@ abbrev pub ComesWhenApplied : Type 0
 ComesWhenApplied =
     (c : Call) (lent : List ℤ) (p : Plant) (a : Answer) (words : List ℤ) (q : Plant) → keptPlant p ≡ true → Ran c lent p a words q
     → (n : ℕ) → has n (came (viewPlant p .rows) (viewPlant q .rows)) ≡ true → Carries n (viewPlant p) (viewPlant q)
+
+-- and once a session has begun the store changes only so
+abbrev pub StoreStaysElse : Type 0
+StoreStaysElse =
+    (c : Call) (lent : List ℤ) (p : Plant) (a : Answer) (words : List ℤ) (q : Plant) → Ran c lent p a words q
+    → everBegun (viewPlant p) ≡ true → came (viewPlant p .rows) (viewPlant q .rows) ≡ [] → viewPlant q .store ≡ viewPlant p .store
 
 -- ── after every list of calls from the empty plant ──
 -- the sessions applied, in their order: those whose row came, by the plants that the calls got and left

@@ -147,7 +147,7 @@ carries n p q s r e o lt =
     }
 
 -- one with a row is not
-stays-carried : (n : ℕ) (p : Plant) → has n (p .rows) ≡ true → carried n p ≡ p
+pub stays-carried : (n : ℕ) (p : Plant) → has n (p .rows) ≡ true → carried n p ≡ p
 unfolding carried
 stays-carried n p e = rw e
 

@@ -1,22 +1,22 @@
 -- A row comes with the transaction of its session. A session that has been applied is spent and stays so, and a spent one is not applied again.
-use Prim.Native.Nat.{_+_, ℕ}
+use Prim.Native.Nat.{_+_, _<_, ℕ}
 use mathlib.Core.Path.{_∙_, _≡_, ap, refl, subst, sym}
-use mathlib.Core.Bool.{Bool, false, not, true, true≢false}
+use mathlib.Core.Bool.{Bool, _&&_, false, not, true, true≢false}
 use mathlib.Core.Logic.{inl}
 use mathlib.Core.Option.{Option, none, some}
 use mathlib.Core.List.{List, [], _++_, _∷_}
 use lib.ListN.{length}
 use lib.Dec.{eqb, leb, ltb}
 use lib.IntN.{ℤ}
-use borrow.Author.Tests.{eqb-true, ltb-true, not-false, not-true}
-use Rattle.rules.specs.Lists.{keep, isEmpty, pushed, has}
+use borrow.Author.Tests.{eqb-true, not-false, not-true}
+use Rattle.rules.specs.Lists.{keep, isEmpty, pushed, has, sameCase}
 use Rattle.rules.specs.Limits.{slotLimit, bufferLimit, rowLimit, workerCount}
-use Rattle.rules.specs.Refusals.{Refusal, endsSession, first, outOfRange, wrongHand}
+use Rattle.rules.specs.Refusals.{Refusal, endsSession, first, outOfRange, wrongHand, rowsFull}
 use Rattle.rules.specs.Values.{below, natOf}
 use Rattle.rules.specs.Changes.{Update, placeOf, updateOf}
 use Rattle.rules.specs.Tables.{hasSlot, session, Batch, numbersOf, isBuffered, isOldest, unbuffer, full, handed, Plant}
-use Rattle.rules.specs.Calls.{Fate, arrives, lost, unreached, fateOf, Call, Load, Map, Begin, Read, Change, Commit, Abandon, Advance, Take, Apply, Delete, Cut, Sweep, Store, Report}
-use Rattle.rules.specs.Conditions.{goodFate, noRoom, conditions}
+use Rattle.rules.specs.Calls.{Fate, arrives, lost, unreached, fateNumber, fateOf, Call, Load, Map, Begin, Read, Change, Commit, Abandon, Advance, Take, Apply, Delete, Cut, Sweep, Store, Report}
+use Rattle.rules.specs.Conditions.{everBegun, goodFate, noRoom, conditions}
 use Rattle.rules.specs.Effects.{loaded, mapped, opened, firstDoomed, room, begun, withShared, onlyAt, afterRead, grant, changed, bufferedAfter, committed, abandoned, lapse, advanced, taken, carried, applied, deleted, cut, removed, swept}
 use Rattle.rules.specs.Step.{accepted, sessionOf, ending, settle, step}
 use Rattle.rules.specs.Kept.{isFresh}
@@ -24,7 +24,7 @@ use Rattle.rules.specs.Answers.{Carries}
 use Rattle.rules.proofs.Laws.{byCase, self, not-met, NoneMet, none-met, and-true, or-false, below-is, pushed-room}
 use Rattle.rules.proofs.Slots.{has-slot}
 use Rattle.rules.proofs.KeptParts.{Kept}
-use Rattle.rules.proofs.Buffer.{nums-append, is-oldest, has-snoc-false, has-snoc-true, nums-unbuffer, has-keep-false, buffered-nums}
+use Rattle.rules.proofs.Buffer.{nums-append, is-oldest, has-snoc-false, has-snoc-true, nums-unbuffer, has-keep-false, buffered-nums, row-room}
 use Rattle.rules.proofs.Sweeping.{row-stays, row-good}
 use Rattle.rules.proofs.Answered.{carries}
 use Rattle.rules.proofs.KeptSlots.{room-fits}
@@ -133,25 +133,25 @@ spent-step c lent p n k s = go (first (conditions c lent p)) refl
     go none e = spent-accepted c lent p n (none-met (conditions c lent p) e) k s
     go (some r) e = byCase (endsSession r) (λ t. rw t (ended (sessionOf c))) (λ t. rw t s)
 
--- ── what a call does to the rows ──
+-- ── what a call does to the rows, and to the store once a session has begun ──
 pub data RowsAfter (p q : Plant) : Type 0 where
-  stay : q .rows ≡ p .rows → RowsAfter p q
-  fewer : (f : ℕ → Bool) → q .rows ≡ keep f (p .rows) → RowsAfter p q
-  carry : (n : ℕ) → q .store ≡ (carried n p) .store → q .rows ≡ (carried n p) .rows → (Kept p → has n (p .rows) ≡ false → isOldest n (p .buffer) ≡ true)
-      → RowsAfter p q
+  stay : q .rows ≡ p .rows → (everBegun p ≡ true → q .store ≡ p .store) → RowsAfter p q
+  fewer : (f : ℕ → Bool) → q .rows ≡ keep f (p .rows) → q .store ≡ p .store → RowsAfter p q
+  carry : (n : ℕ) → q .store ≡ (carried n p) .store → q .rows ≡ (carried n p) .rows → (has n (p .rows) ≡ false → length (p .rows) < rowLimit)
+      → (Kept p → has n (p .rows) ≡ false → isOldest n (p .buffer) ≡ true) → RowsAfter p q
 
 rows-accepted : (c : Call) (lent : List ℤ) (p : Plant) → NoneMet (conditions c lent p) → RowsAfter p ((accepted c lent p) .plant)
 unfolding accepted conditions loaded mapped begun afterRead changed committed abandoned advanced taken applied deleted cut swept
-rows-accepted (Load d f kd v) lent p m = stay refl
-rows-accepted (Map ky i qs) lent p m = stay refl
-rows-accepted Begin lent p m = stay refl
-rows-accepted (Read x ky) lent p m = stay refl
-rows-accepted (Change x d f kd v) lent p m = stay refl
-rows-accepted (Commit x) lent p m = stay refl
-rows-accepted (Abandon x) lent p m = stay refl
-rows-accepted (Advance i) lent p m = stay refl
-rows-accepted (Take w) lent p m = stay refl
-rows-accepted (Apply w fate) lent p m = go (fateOf fate)
+rows-accepted (Load d f kd v) lent p m = stay refl (λ b. absurd (true≢false (sym b ∙ not-met _ _ (m .1 .0))))
+rows-accepted (Map ky i qs) lent p m = stay refl (λ b. refl)
+rows-accepted Begin lent p m = stay refl (λ b. refl)
+rows-accepted (Read x ky) lent p m = stay refl (λ b. refl)
+rows-accepted (Change x d f kd v) lent p m = stay refl (λ b. refl)
+rows-accepted (Commit x) lent p m = stay refl (λ b. refl)
+rows-accepted (Abandon x) lent p m = stay refl (λ b. refl)
+rows-accepted (Advance i) lent p m = stay refl (λ b. refl)
+rows-accepted (Take w) lent p m = stay refl (λ b. refl)
+rows-accepted (Apply w fate) lent p m = go (fateOf fate) (not-met _ rowsFull (m .1 .1 .1 .0))
   where
     n : ℕ
     n = handed (p .hands (natOf w))
@@ -165,47 +165,44 @@ rows-accepted (Apply w fate) lent p m = go (fateOf fate)
     old : Kept p → has n (p .rows) ≡ false → isOldest n (p .buffer) ≡ true
     old k t = is-oldest (p .rows) (p .buffer) (p .hands (natOf w)) isFull t (k .hands (natOf w) (below-is w workerCount good))
 
-    go : (x : Fate) → RowsAfter p (applied x (natOf w) p)
-    go arrives = carry n refl refl old
-    go lost = byCase (noRoom (natOf w) p) (λ t. rw t (stay refl)) (λ t. rw t (carry n refl refl old))
-    go unreached = stay refl
-rows-accepted (Delete w) lent p m = stay refl
-rows-accepted (Cut w) lent p m = stay refl
-rows-accepted Sweep lent p m = fewer (λ n. not (has n (removed p))) refl
-rows-accepted (Store i) lent p m = stay refl
-rows-accepted (Report x) lent p m = stay refl
+    go : (x : Fate) → sameCase fateNumber x arrives && noRoom (natOf w) p ≡ false → RowsAfter p (applied x (natOf w) p)
+    go arrives r = carry n refl refl (row-room n (p .rows) r) old
+    go lost r = byCase (noRoom (natOf w) p) (λ t. rw t (stay refl (λ b. refl))) (λ t. rw t (carry n refl refl (row-room n (p .rows) t) old))
+    go unreached r = stay refl (λ b. refl)
+rows-accepted (Delete w) lent p m = stay refl (λ b. refl)
+rows-accepted (Cut w) lent p m = stay refl (λ b. refl)
+rows-accepted Sweep lent p m = fewer (λ n. not (has n (removed p))) refl refl
+rows-accepted (Store i) lent p m = stay refl (λ b. refl)
+rows-accepted (Report x) lent p m = stay refl (λ b. refl)
 
 pub rows-after : (c : Call) (lent : List ℤ) (p : Plant) → RowsAfter p ((step c lent p) .plant)
 unfolding step
 rows-after c lent p = go (first (conditions c lent p)) refl
   where
     ended : (x : Option ℕ) → RowsAfter p (ending x p)
-    ended none = stay refl
-    ended (some s) = stay refl
+    ended none = stay refl (λ b. refl)
+    ended (some s) = stay refl (λ b. refl)
 
     go : (x : Option Refusal) → first (conditions c lent p) ≡ x → RowsAfter p ((settle x c lent p) .plant)
     go none e = rows-accepted c lent p (none-met (conditions c lent p) e)
-    go (some r) e = byCase (endsSession r) (λ t. rw t (ended (sessionOf c))) (λ t. rw t (stay refl))
+    go (some r) e = byCase (endsSession r) (λ t. rw t (ended (sessionOf c))) (λ t. rw t (stay refl (λ b. refl)))
 
 -- ── a row comes with the transaction of its session ──
-came-carried : (n m : ℕ) (p q : Plant) → q .store ≡ (carried m p) .store → q .rows ≡ (carried m p) .rows → (has m (p .rows) ≡ false → isOldest m (p .buffer) ≡ true)
-    → has n (q .rows) ≡ true → has n (p .rows) ≡ false → Carries n p q
-unfolding carried pushed
-came-carried n m p q es er o h e =
+came-carried : (n m : ℕ) (p q : Plant) → q .store ≡ (carried m p) .store → q .rows ≡ (carried m p) .rows → (has m (p .rows) ≡ false → length (p .rows) < rowLimit)
+    → (has m (p .rows) ≡ false → isOldest m (p .buffer) ≡ true) → has n (q .rows) ≡ true → has n (p .rows) ≡ false → Carries n p q
+unfolding carried
+came-carried n m p q es er r o h e =
     byCase (has m (p .rows)) (λ t. absurd (true≢false (sym (rw t at there) ∙ e)))
-    (λ t. byCase (ltb (length (p .rows)) rowLimit)
-    (λ u. byCase (eqb n m)
-    (λ v. subst (λ i. Carries i p q) (sym (eqb-true n m v)) (carries m p q es er t (o t) (ltb-true (length (p .rows)) rowLimit u)))
-    (λ v. absurd (true≢false (sym (rw (t, u) at there) ∙ has-snoc-false n m (p .rows) e v))))
-    (λ u. absurd (true≢false (sym (rw (t, u) at there) ∙ e))))
+    (λ t. byCase (eqb n m) (λ v. subst (λ i. Carries i p q) (sym (eqb-true n m v)) (carries m p q es er t (o t) (r t)))
+    (λ v. absurd (true≢false (sym (rw (t, pushed-room rowLimit (p .rows) m (r t)) at there) ∙ has-snoc-false n m (p .rows) e v))))
   where
     there : has n ((carried m p) .rows) ≡ true
     there = sym (ap (has n) er) ∙ h
 
 pub came-after : (n : ℕ) (p q : Plant) → Kept p → RowsAfter p q → has n (q .rows) ≡ true → has n (p .rows) ≡ false → Carries n p q
-came-after n p q k (stay e) h u = absurd (true≢false (sym h ∙ ap (has n) e ∙ u))
-came-after n p q k (fewer f e) h u = absurd (true≢false (sym h ∙ ap (has n) e ∙ has-keep-false f n (p .rows) u))
-came-after n p q k (carry m es er o) h u = came-carried n m p q es er (o k) h u
+came-after n p q k (stay e s) h u = absurd (true≢false (sym h ∙ ap (has n) e ∙ u))
+came-after n p q k (fewer f e s) h u = absurd (true≢false (sym h ∙ ap (has n) e ∙ has-keep-false f n (p .rows) u))
+came-after n p q k (carry m es er r o) h u = came-carried n m p q es er r (o k) h u
 
 -- so it was not spent: buffered, it had no row
 pub came-unspent : {n : ℕ} {p q : Plant} → Carries n p q → Spent n p → ⊥

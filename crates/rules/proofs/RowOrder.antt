@@ -3,7 +3,7 @@ use Prim.Native.Nat.{_≤_, ℕ}
 use native.Mathlib.Omega.{arith}
 use mathlib.Core.Path.{_∙_, _≡_, ap, refl, subst, sym}
 use mathlib.Core.Bool.{_&&_, false, not, true, true≢false}
-use mathlib.Core.List.{List, [], _++_, _∷_, append-assoc, append-nil}
+use mathlib.Core.List.{List, [], _++_, _∷_, append-assoc, append-nil, nil≢cons}
 use lib.ListN.{length, take}
 use lib.Dec.{eqb, ltb}
 use lib.IntN.{ℤ}
@@ -13,10 +13,11 @@ use Rattle.rules.specs.Limits.{rowLimit, sweepLimit}
 use Rattle.rules.specs.Tables.{Plant, setup, removable}
 use Rattle.rules.specs.Calls.{Call, Sweep, fine}
 use Rattle.rules.specs.Effects.{carried, removed, swept}
+use Rattle.rules.specs.Conditions.{everBegun}
 use Rattle.rules.specs.Step.{accepted, step}
 use Rattle.rules.specs.History.{Turn, World, does, turn, turns, initial, leftBy}
-use Rattle.rules.specs.RowOrder.{came, StandInOrder, RowsInOrder, ComesWhenApplied, appliedFrom, appliedOrder, AppliedOnce, InAppliedOrder, oldestRemovable, TakesOldest, OldestRowsGo}
-use Rattle.rules.proofs.Laws.{byCase, self}
+use Rattle.rules.specs.RowOrder.{came, StandInOrder, RowsInOrder, ComesWhenApplied, StoreStaysElse, appliedFrom, appliedOrder, AppliedOnce, InAppliedOrder, oldestRemovable, TakesOldest, OldestRowsGo}
+use Rattle.rules.proofs.Laws.{byCase, self, pushed-room}
 use Rattle.rules.proofs.Tests.{Once, once-test}
 use Rattle.rules.proofs.Steps.{step-fine, given, fine-none}
 use Rattle.rules.proofs.Buffer.{has-snoc-false, has-snoc-true, once-snoc, has-keep-false}
@@ -25,6 +26,7 @@ use Rattle.rules.proofs.KeptParts.{Kept}
 use Rattle.rules.proofs.KeptTables.{has-keep-true}
 use Rattle.rules.proofs.Kept.{step-keeps, initial-kept}
 use Rattle.rules.proofs.KeptTest.{kept-iff}
+use Rattle.rules.proofs.Answered.{stays-carried}
 use Rattle.rules.proofs.AppliedOnce.{Spent, row-spent, spent-step, RowsAfter, stay, fewer, carry, rows-after, came-after, came-unspent}
 
 -- ── of one call ──
@@ -49,15 +51,15 @@ left old now e =
 same : (l : List ℕ) → StandInOrder l l
 same l = left l l (in-order-self l)
 
+came-one : (n : ℕ) (l : List ℕ) → has n l ≡ false → came l (l ++ (n ∷ [])) ≡ n ∷ []
+came-one n l h = keep-append (λ m. not (has m l)) l (n ∷ []) ∙ rw (none-came l l (in-order-self l), h) refl
+
 one-more : (n : ℕ) (l : List ℕ) → has n l ≡ false → StandInOrder l (l ++ (n ∷ []))
 one-more n l h =
     record {
-      order = rw new (ap (λ z. z ++ (n ∷ [])) (in-order-self l ∙ keep-same (λ m. has m l) (λ m. has m (l ++ (n ∷ []))) l (λ m t. t ∙ sym (has-snoc-true m n l t))));
-      oneAtMost = rw new (omega arith);
+      order = rw (came-one n l h) (ap (λ z. z ++ (n ∷ [])) (in-order-self l ∙ keep-same (λ m. has m l) (λ m. has m (l ++ (n ∷ []))) l (λ m t. t ∙ sym (has-snoc-true m n l t))));
+      oneAtMost = rw (came-one n l h) (omega arith);
     }
-  where
-    new : came l (l ++ (n ∷ [])) ≡ n ∷ []
-    new = keep-append (λ m. not (has m l)) l (n ∷ []) ∙ rw (none-came l l (in-order-self l), h) refl
 
 carried-rows : (n : ℕ) (p : Plant) → StandInOrder (p .rows) ((carried n p) .rows)
 unfolding carried pushed
@@ -66,9 +68,9 @@ carried-rows n p =
     (λ e. rw e (byCase (ltb (length (p .rows)) rowLimit) (λ t. rw t (one-more n (p .rows) e)) (λ t. rw t (same (p .rows)))))
 
 in-order-after : (p q : Plant) → RowsAfter p q → StandInOrder (p .rows) (q .rows)
-in-order-after p q (stay e) = rw e (same (p .rows))
-in-order-after p q (fewer f e) = rw e (left (p .rows) (keep f (p .rows)) (in-order-kept f (p .rows)))
-in-order-after p q (carry n es er o) = rw er (carried-rows n p)
+in-order-after p q (stay e s) = rw e (same (p .rows))
+in-order-after p q (fewer f e s) = rw e (left (p .rows) (keep f (p .rows)) (in-order-kept f (p .rows)))
+in-order-after p q (carry n es er r o) = rw er (carried-rows n p)
 
 pub rows-in-order : RowsInOrder
 rows-in-order c lent p = in-order-after p ((step c lent p) .plant) (rows-after c lent p)
@@ -78,6 +80,19 @@ comes-when-applied c lent p n k h =
     let q = (step c lent p) .plant in
     came-after n p q (kept-iff p .0 k) (rows-after c lent p) (has-keep-true (λ m. not (has m (p .rows))) n (q .rows) h)
     (not-true (has n (p .rows)) (kept-has (λ m. not (has m (p .rows))) n (q .rows) h))
+
+stays-else : (p q : Plant) → RowsAfter p q → everBegun p ≡ true → came (p .rows) (q .rows) ≡ [] → q .store ≡ p .store
+unfolding carried
+stays-else p q (stay e s) b h = s b
+stays-else p q (fewer f e s) b h = s
+stays-else p q (carry n es er r o) b h =
+    byCase (has n (p .rows)) (λ t. es ∙ ap (λ z. z .store) (stays-carried n p t))
+    (λ t.
+    let now : q .rows ≡ p .rows ++ (n ∷ []) = er ∙ rw (t, pushed-room rowLimit (p .rows) n (r t)) refl in
+    absurd (nil≢cons (sym h ∙ ap (came (p .rows)) now ∙ came-one n (p .rows) t)))
+
+pub store-stays-else : StoreStaysElse
+store-stays-else c lent p = stays-else p ((step c lent p) .plant) (rows-after c lent p)
 
 -- ── after every list of calls ──
 -- l are the sessions applied so far: they are spent, each stands once, and the rows stand in their order

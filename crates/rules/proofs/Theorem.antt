@@ -17,7 +17,7 @@ use Rattle.rules.proofs.Frames.{writes-only, commit-leaves-store, lease
 use Rattle.rules.proofs.Numbers.{numbers-rise}
 use Rattle.rules.proofs.Answers.{answers-count}
 use Rattle.rules.proofs.CacheOrder.{in-read-order, oldest-gives-way, commit-caches-none, clock-leaves-order}
-use Rattle.rules.proofs.RowOrder.{rows-in-order, comes-when-applied, applied-once, in-applied-order, oldest-rows-go}
+use Rattle.rules.proofs.RowOrder.{rows-in-order, comes-when-applied, store-stays-else, applied-once, in-applied-order, oldest-rows-go}
 
 pub theorem : Theorem
 theorem =
@@ -44,6 +44,7 @@ theorem =
       clockLeavesOrder = clock-leaves-order;
       rowsInOrder = rows-in-order;
       comesWhenApplied = comes-when-applied;
+      storeStaysElse = store-stays-else;
       appliedOnce = applied-once;
       inAppliedOrder = in-applied-order;
       oldestRowsGo = oldest-rows-go;

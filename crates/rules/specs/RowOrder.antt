@@ -9,6 +9,7 @@ use Rattle.rules.specs.Lists.{keep, has, isOnce, InOrder}
 use Rattle.rules.specs.Limits.{sweepLimit}
 use Rattle.rules.specs.Tables.{Plant, removable}
 use Rattle.rules.specs.Calls.{Call, Sweep, fine}
+use Rattle.rules.specs.Conditions.{everBegun}
 use Rattle.rules.specs.Step.{step}
 use Rattle.rules.specs.Kept.{kept}
 use Rattle.rules.specs.Answers.{Carries}
@@ -33,6 +34,12 @@ abbrev pub ComesWhenApplied : Type 0
 ComesWhenApplied =
     (c : Call) (lent : List ℤ) (p : Plant) (n : ℕ) → kept p ≡ true → has n (came (p .rows) (((step c lent p) .plant) .rows)) ≡ true
     → Carries n p ((step c lent p) .plant)
+
+-- and once a session has begun the store changes only so: where no row comes, it stays. So a session is applied just when its row comes
+abbrev pub StoreStaysElse : Type 0
+StoreStaysElse =
+    (c : Call) (lent : List ℤ) (p : Plant) → everBegun p ≡ true → came (p .rows) (((step c lent p) .plant) .rows) ≡ []
+    → ((step c lent p) .plant) .store ≡ p .store
 
 -- ── after every list of calls ──
 -- the sessions applied, in their order: those whose row came

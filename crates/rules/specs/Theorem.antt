@@ -2,7 +2,7 @@
 use Rattle.rules.specs.Refusals.{wasDoomed, exclusiveElsewhere}
 use Rattle.rules.specs.Claims.{RefusalsLeave, EndsSession, SparesSessions, WritesOnly, FillsOnly, SetupKept, StepKeeps, KnownAway, StoreAway, SeenFits, ReadsShow, CommitLeavesStore, AnswersCount, NumbersRise, LeaseUnseen}
 use Rattle.rules.specs.CacheOrder.{InReadOrder, OldestGivesWay, CommitCachesNone, ClockLeavesOrder}
-use Rattle.rules.specs.RowOrder.{RowsInOrder, ComesWhenApplied, AppliedOnce, InAppliedOrder, OldestRowsGo}
+use Rattle.rules.specs.RowOrder.{RowsInOrder, ComesWhenApplied, StoreStaysElse, AppliedOnce, InAppliedOrder, OldestRowsGo}
 use Rattle.rules.specs.Demand3.{Demand3}
 use Rattle.rules.specs.Edges.{Edges, PaperRun}
 use Rattle.rules.specs.Runs.{Runs}
@@ -40,6 +40,7 @@ pub record Theorem : Type 0 where
   -- a sweep takes what it can, oldest rows first
   pub rowsInOrder : RowsInOrder
   pub comesWhenApplied : ComesWhenApplied
+  pub storeStaysElse : StoreStaysElse
   pub appliedOnce : AppliedOnce
   pub inAppliedOrder : InAppliedOrder
   pub oldestRowsGo : OldestRowsGo
