@@ -1,4 +1,4 @@
-//! Fields of the store and the six changes (paper 01, "The six changes").
+//! Fields of the store and the six changes (paper 01, "The six changes"; request (c) of paper 02).
 
 use crate::refusal::Refusal;
 
@@ -99,12 +99,13 @@ impl Field {
             PULL => match self.kind {
                 ABSENT => {}
                 LIST => {
-                    if let Some(first) = self.members().iter().position(|&member| member == value) {
-                        self.values.copy_within(first + 1.., first);
-                        // Unused values are 0 already, so the last one copied is right except in a full list.
-                        self.values[MEMBERS - 1] = 0;
-                        self.count -= 1;
+                    // The members that stay, in their order. With none left it is a list all the same.
+                    let mut left = Field { kind: LIST, ..Field::EMPTY };
+                    for &member in self.members().iter().filter(|&&member| member != value) {
+                        left.values[left.count as usize] = member;
+                        left.count += 1;
                     }
+                    *self = left;
                 }
                 _ => return Err(Refusal::WrongKind),
             },
