@@ -2,27 +2,9 @@
 
 mod common;
 
-use common::Desk;
-use reference_plant::field::{Field, ADD, INC, LIST, PULL, PUSH};
+use common::{after, list, Desk};
+use reference_plant::field::{Field, ADD, INC, PULL, PUSH};
 use reference_plant::refusal::Refusal;
-
-fn list(members: &[i32]) -> Field {
-    let mut values = [0; 6];
-    values[..members.len()].copy_from_slice(members);
-    Field { kind: LIST, count: members.len() as i32, values }
-}
-
-/// The field after the change, or its refusal; a refusal must leave the field as it was.
-fn after(field: Field, kind: u8, value: i32) -> Result<Field, Refusal> {
-    let mut changed = field;
-    match changed.make(kind, value) {
-        Ok(()) => Ok(changed),
-        Err(refusal) => {
-            assert_eq!(changed, field);
-            Err(refusal)
-        }
-    }
-}
 
 #[test]
 fn m1_inc_on_absent() {

@@ -1,7 +1,29 @@
-//! What the tests share: calls and answers written short, with one space between numbers.
+//! What the tests share: fields, and calls and answers written short, with one space between numbers.
 
+use reference_plant::field::{Field, LIST};
 use reference_plant::lines::{answer, COLUMNS, LONGEST_ANSWER};
 use reference_plant::plant::Plant;
+use reference_plant::refusal::Refusal;
+
+#[allow(dead_code)]
+pub fn list(members: &[i32]) -> Field {
+    let mut values = [0; 6];
+    values[..members.len()].copy_from_slice(members);
+    Field { kind: LIST, count: members.len() as i32, values }
+}
+
+/// The field after the change, or its refusal; a refusal must leave the field as it was.
+#[allow(dead_code)]
+pub fn after(field: Field, kind: u8, value: i32) -> Result<Field, Refusal> {
+    let mut changed = field;
+    match changed.make(kind, value) {
+        Ok(()) => Ok(changed),
+        Err(refusal) => {
+            assert_eq!(changed, field);
+            Err(refusal)
+        }
+    }
+}
 
 /// The line of a call written short: "5 1 0 0 3 -25" in its columns, without byte 10.
 pub fn line(short: &str) -> String {
