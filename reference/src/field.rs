@@ -64,7 +64,8 @@ impl Field {
         [self.kind, self.count, v[0], v[1], v[2], v[3], v[4], v[5]]
     }
 
-    fn members(&self) -> &[i32] {
+    /// The members of a list.
+    pub fn members(&self) -> &[i32] {
         &self.values[..(self.count as usize).min(MEMBERS)]
     }
 

@@ -6,12 +6,13 @@
 
 use std::io::{self, Write};
 
-use crate::field::{ABSENT, ADD, INC, LIST, MEMBERS, NUMBER, PULL, PUSH, SET, UNSET};
+use crate::field::{Field, ABSENT, ADD, INC, LIST, MEMBERS, NUMBER, PULL, PUSH, SET, UNSET};
 use crate::lines::{answer, call_columns, number_count, write_number, CALLS, COLUMNS, LONGEST_ANSWER};
 use crate::plant::*;
 use crate::random::Random;
 
 mod hits;
+mod pulls;
 mod sweeps;
 
 /// What kind of file to write.
@@ -30,6 +31,8 @@ pub enum Profile {
     Hits,
     /// Many rows, some of which may not go, and sweeps at and beside sixteen.
     Sweeps,
+    /// Lists with repeats, and pulls of what they have several times.
+    Pulls,
 }
 
 impl Profile {
@@ -41,6 +44,7 @@ impl Profile {
             "late" => Some(Profile::Late),
             "hits" => Some(Profile::Hits),
             "sweeps" => Some(Profile::Sweeps),
+            "pulls" => Some(Profile::Pulls),
             _ => None,
         }
     }
@@ -55,6 +59,7 @@ pub fn generate<W: Write>(to: W, seed: u64, count: u64, profile: Profile) -> io:
         Profile::Storm => generator.mixed(&STORM_PHASES)?,
         Profile::Hits => generator.hits()?,
         Profile::Sweeps => generator.sweeps()?,
+        Profile::Pulls => generator.pulls()?,
         Profile::Late => {
             generator.approach_clock_end()?;
             generator.mixed(&MIXED_PHASES)?;
@@ -383,6 +388,9 @@ struct Generator<W: Write> {
     /// The key that left the cache last and the one read last, for the profile `hits`.
     gone: usize,
     read_last: usize,
+    /// The places that are lists and their values, for the profile `pulls`.
+    places: Vec<u8>,
+    values: Vec<i64>,
     /// Whether the file's last line is left without its byte 10.
     open_end: bool,
     line: Vec<u8>,
@@ -401,6 +409,8 @@ impl<W: Write> Generator<W> {
             worker: 0,
             gone: 0,
             read_last: 0,
+            places: Vec::new(),
+            values: Vec::new(),
             open_end: false,
             line: Vec::new(),
         }

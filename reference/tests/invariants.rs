@@ -170,10 +170,16 @@ fn sweeps_files() {
     (500..506).for_each(|seed| check_file(seed, 2_000, Profile::Sweeps));
 }
 
+#[test]
+fn pulls_files() {
+    (600..606).for_each(|seed| check_file(seed, 2_000, Profile::Pulls));
+}
+
 /// The same seed gives the same file, another one another, each with as many lines as asked for.
 #[test]
 fn files_follow_from_their_seeds() {
-    for profile in [Profile::Mixed, Profile::Work, Profile::Storm, Profile::Hits, Profile::Sweeps] {
+    let profiles = [Profile::Mixed, Profile::Work, Profile::Storm, Profile::Hits, Profile::Sweeps, Profile::Pulls];
+    for profile in profiles {
         let file = |seed: u64| {
             let mut file = Vec::new();
             generate(&mut file, seed, 500, profile).unwrap();

@@ -452,7 +452,8 @@ fn generated(seed: u64, lines: u64, profile: Profile) -> (Vec<u8>, Vec<u8>) {
 
 #[test]
 fn generated_files_are_held() {
-    for profile in [Profile::Mixed, Profile::Work, Profile::Storm, Profile::Hits, Profile::Sweeps] {
+    let profiles = [Profile::Mixed, Profile::Work, Profile::Storm, Profile::Hits, Profile::Sweeps, Profile::Pulls];
+    for profile in profiles {
         for seed in 1..6 {
             let (calls, answers) = generated(seed, 5_000, profile);
             let held = judge(&calls, &answers).unwrap_or_else(|contradiction| panic!("{seed}: {contradiction}"));
@@ -473,6 +474,8 @@ fn each_tampered_number_is_refused() {
         (6, Profile::Hits),
         (7, Profile::Sweeps),
         (8, Profile::Sweeps),
+        (9, Profile::Pulls),
+        (10, Profile::Pulls),
     ];
     for (seed, profile) in files {
         let (calls, answers) = generated(seed, 700, profile);

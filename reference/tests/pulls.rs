@@ -3,7 +3,10 @@
 mod common;
 
 use common::{after, list, Desk};
-use reference_plant::field::{Field, ADD, PULL};
+use reference_plant::field::{Field, ADD, LIST, PULL};
+use reference_plant::generator::{generate, Profile};
+use reference_plant::lines::{parse, Call};
+use reference_plant::plant::Plant;
 use reference_plant::refusal::Refusal;
 
 const LOW: i32 = i32::MIN;
@@ -294,4 +297,44 @@ fn a_pull_that_is_not_committed_leaves_the_list() {
     desk.expect(&[("3", "0 4"), ("5 4 0 0 6 4", "0 1"), ("8 300", "0 300"), ("6 4", "3")]);
     expect_read(&mut desk, &shown(1, members));
     assert_eq!(desk.plant.store[0], list(members));
+}
+
+/// How many members are equal to what the line pulls from a list, by a session or, as session 0, by load.
+fn equal_members(plant: &Plant, line: &[u8]) -> Option<usize> {
+    let Call { call, numbers } = parse(line).ok()?;
+    let (session, change) = match call {
+        1 => (0, &numbers[..4]),
+        5 => (numbers[0], &numbers[1..5]),
+        _ => return None,
+    };
+    let &[document, field, 6, value] = change else {
+        return None;
+    };
+    let place = u8::try_from(4 * document + field).ok()?;
+    // A free slot has number 0 and no changes: it sees the fields as a load does.
+    let slot = plant.sessions.iter().position(|slot| i64::from(slot.number) == session)?;
+    let seen = plant.seen(slot, place);
+    let equal = seen.members().iter().filter(|&&member| i64::from(member) == value).count();
+    (seen.kind == LIST).then_some(equal)
+}
+
+/// In each file of the profile sessions pull what a list has not at all, once, and so on up to six times. Loads pull
+/// repeats too.
+#[test]
+fn the_profile_pulls_repeats() {
+    for seed in 1..=10 {
+        let mut file = Vec::new();
+        generate(&mut file, seed, 10_000, Profile::Pulls).unwrap();
+        let mut desk = Desk::new();
+        let (mut loads, mut sessions) = ([0; 7], [0; 7]);
+        for line in file.split(|&byte| byte == b'\n') {
+            let equal = equal_members(&desk.plant, line);
+            let counts = if desk.plant.begun() { &mut sessions } else { &mut loads };
+            if let (Some(equal), true) = (equal, desk.raw(line).starts_with(b" 0")) {
+                counts[equal] += 1;
+            }
+        }
+        assert!(sessions.iter().all(|&count| count > 0), "seed {seed}: {sessions:?}");
+        assert!(loads[2..].iter().any(|&count| count > 0), "seed {seed}: {loads:?}");
+    }
 }

@@ -226,7 +226,7 @@ impl<W: Write> Generator<W> {
     }
 
     /// Reads the key in the session that reads.
-    fn read_key(&mut self, key: usize) -> io::Result<()> {
+    pub(super) fn read_key(&mut self, key: usize) -> io::Result<()> {
         self.reader()?;
         self.read_last = key;
         self.call_and_note(4, &[self.session, key as i64])
