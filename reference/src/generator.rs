@@ -103,6 +103,8 @@ struct Phase {
     kinds: &'static [u8],
     /// Whether values are mostly at the ends of the range.
     extreme: bool,
+    /// Whether half of the pushes and pulls take a value that the list has, so that repeats come and go.
+    repeats: bool,
 }
 
 const EVERY_KIND: &[u8] = &[SET, UNSET, INC, INC, ADD, PUSH, PULL];
@@ -131,6 +133,7 @@ const ORDINARY: Phase = Phase {
     away: 5,
     kinds: EVERY_KIND,
     extreme: false,
+    repeats: false,
 };
 
 const FILL_BUFFER: Phase = Phase {
@@ -151,6 +154,7 @@ const FILL_BUFFER: Phase = Phase {
     away: 15,
     kinds: EVERY_KIND,
     extreme: false,
+    repeats: false,
 };
 
 const FILL_ROWS: Phase = Phase {
@@ -172,6 +176,7 @@ const FILL_ROWS: Phase = Phase {
     away: 0,
     kinds: EVERY_KIND,
     extreme: false,
+    repeats: false,
 };
 
 const FILL_SLOTS: Phase = Phase {
@@ -190,6 +195,7 @@ const FILL_SLOTS: Phase = Phase {
     away: 10,
     kinds: EVERY_KIND,
     extreme: false,
+    repeats: false,
 };
 
 const FILL_CACHE: Phase = Phase {
@@ -207,6 +213,7 @@ const FILL_CACHE: Phase = Phase {
     away: 20,
     kinds: EVERY_KIND,
     extreme: false,
+    repeats: false,
 };
 
 const AWAY: Phase = Phase {
@@ -228,6 +235,7 @@ const AWAY: Phase = Phase {
     away: 100,
     kinds: EVERY_KIND,
     extreme: false,
+    repeats: true,
 };
 
 const LAPSES: Phase = Phase {
@@ -248,6 +256,7 @@ const LAPSES: Phase = Phase {
     away: 10,
     kinds: EVERY_KIND,
     extreme: false,
+    repeats: false,
 };
 
 const WORKERS_OVERTAKEN: Phase = Phase {
@@ -267,6 +276,7 @@ const WORKERS_OVERTAKEN: Phase = Phase {
     away: 0,
     kinds: EVERY_KIND,
     extreme: false,
+    repeats: false,
 };
 
 const LISTS: Phase = Phase {
@@ -284,6 +294,7 @@ const LISTS: Phase = Phase {
     away: 0,
     kinds: LIST_KINDS,
     extreme: false,
+    repeats: true,
 };
 
 const EXTREMES: Phase = Phase {
@@ -304,6 +315,7 @@ const EXTREMES: Phase = Phase {
     away: 0,
     kinds: NUMBER_KINDS,
     extreme: true,
+    repeats: false,
 };
 
 const DRAIN: Phase = Phase {
@@ -319,6 +331,7 @@ const DRAIN: Phase = Phase {
     away: 0,
     kinds: EVERY_KIND,
     extreme: false,
+    repeats: false,
 };
 
 const STORM_AWAY: Phase = Phase {
@@ -342,6 +355,7 @@ const STORM_AWAY: Phase = Phase {
     away: 100,
     kinds: EVERY_KIND,
     extreme: false,
+    repeats: false,
 };
 
 const MIXED_PHASES: [&Phase; 13] = [
@@ -461,6 +475,14 @@ impl<W: Write> Generator<W> {
         (0..SLOTS).find(|&slot| session > 0 && i64::from(self.plant.sessions[slot].number) == session)
     }
 
+    /// The field as the session sees it; one without a slot, as load, sees no changes of its own.
+    fn field(&self, session: i64, place: u8) -> Field {
+        match self.slot_of(session) {
+            Some(slot) => self.plant.seen(slot, place),
+            None => self.plant.stock[usize::from(place)],
+        }
+    }
+
     /// A session for the next call: the preferred one, another with a slot, seldom one without.
     fn some_session(&mut self) -> i64 {
         if self.random.one_in(40) {
@@ -544,7 +566,13 @@ impl<W: Write> Generator<W> {
                 kind = self.random.pick(LIST_KINDS);
             }
         }
-        let value = self.some_value(kind, phase.extreme);
+        let mut value = self.some_value(kind, phase.extreme);
+        if phase.repeats && (kind == PUSH || kind == PULL) && self.random.percent(50) {
+            let seen = self.field(session, (document as usize * FIELDS + field as usize) as u8);
+            if seen.kind == LIST && seen.count > 0 {
+                value = i64::from(self.random.pick(seen.members()));
+            }
+        }
         [document, field, i64::from(kind), value]
     }
 

@@ -183,14 +183,6 @@ impl<W: Write> Generator<W> {
 
     // Changes of a place by a session; session 0 stands for load.
 
-    /// The field as the session sees it.
-    fn field(&self, session: i64, place: u8) -> Field {
-        match self.slot_of(session) {
-            Some(slot) => self.plant.seen(slot, place),
-            None => self.plant.stock[usize::from(place)],
-        }
-    }
-
     fn change_place(&mut self, session: i64, place: u8, kind: u8, value: i64) -> io::Result<u8> {
         let (document, field) = (i64::from(place) / 4, i64::from(place) % 4);
         if session == 0 {
