@@ -9,10 +9,11 @@ use std::fmt;
 
 use crate::cached::Cached;
 use crate::calls::{change_of, index, place, DONE, DONE_BEFORE, NO_WORD};
-use crate::field::{Change, Field, WORDS};
+use crate::field::{Change, WORDS};
 use crate::lines::{call_columns, parse, read_number, Call, CALL_COLUMNS};
 use crate::plant::{CHANGES, KEYS, KEY_PLACES, PLACES, ROWS, SWEPT, WORKERS};
 use crate::refusal::Refusal;
+use crate::value::Value;
 
 /// What answers were held to the history, in numbers.
 #[derive(Clone, Copy, Default, PartialEq, Eq, Debug)]
@@ -131,7 +132,7 @@ struct Note {
 
 struct History {
     /// The starting stock followed by all pages committed so far.
-    stock: [Field; PLACES],
+    stock: [Value; PLACES],
     /// The places of each key that was mapped.
     keys: [Option<Vec<u8>>; KEYS],
     /// The page of session n is the one with index n - 1, as session numbers rise from 1.
@@ -221,15 +222,10 @@ fn accepted(what: &str, refusal: Option<Refusal>) -> Result<(), String> {
     }
 }
 
-/// The words that show the places of a read in a stock.
-fn words(places: &[u8], field: impl Fn(u8) -> Field) -> Vec<i64> {
-    places.iter().flat_map(|&place| field(place).words()).map(i64::from).collect()
-}
-
 impl History {
     fn new() -> History {
         History {
-            stock: [Field::EMPTY; PLACES],
+            stock: [const { Value::Absent }; PLACES],
             keys: [const { None }; KEYS],
             pages: Vec::new(),
             buffered: VecDeque::new(),
@@ -322,15 +318,22 @@ impl History {
         }
     }
 
+    /// Makes the change on the stock, or tells the refusal that it meets there.
+    fn make(&mut self, change: &Change) -> Result<(), Refusal> {
+        let place = usize::from(change.place);
+        self.stock[place] = self.stock[place].after(change)?;
+        Ok(())
+    }
+
     /// A field as the session of the page sees it: the stock followed by the changes on the page.
-    fn seen(&self, page: usize, place: u8) -> Result<Field, String> {
-        let mut field = self.stock[usize::from(place)];
+    fn seen(&self, page: usize, place: u8) -> Result<Value, String> {
+        let mut value = self.stock[usize::from(place)].clone();
         for change in self.pages[page].changes().filter(|change| change.place == place) {
-            field.make(change.kind, change.value).map_err(|refusal| {
+            value = value.after(change).map_err(|refusal| {
                 format!("an earlier change of the session would now be refused {}", refusal.number())
             })?;
         }
-        Ok(field)
+        Ok(value)
     }
 
     fn load(&mut self, numbers: &[i64]) -> Result<(), String> {
@@ -339,9 +342,7 @@ impl History {
         if !self.pages.is_empty() {
             return Err("load was accepted after a session had begun".to_string());
         }
-        self.stock[usize::from(change.place)]
-            .make(change.kind, change.value)
-            .map_err(|refusal| format!("load was accepted, but meets refusal {}", refusal.number()))
+        accepted("load", self.make(&change).err())
     }
 
     fn map(&mut self, numbers: &[i64]) -> Result<(), String> {
@@ -373,8 +374,8 @@ impl History {
         let page = self.open(session)?;
         let places = self.key(key)?.clone();
         // Demand 2: a read shows all committed sessions and then the reader's own changes.
-        let fields: Result<Vec<Field>, String> = places.iter().map(|&place| self.seen(page, place)).collect();
-        let expected: Vec<i64> = fields?.iter().flat_map(Field::words).map(i64::from).collect();
+        let values: Result<Vec<Value>, String> = places.iter().map(|&place| self.seen(page, place)).collect();
+        let expected: Vec<i64> = values?.iter().flat_map(Value::words).collect();
         if shown != expected {
             return Err(format!("read showed {shown:?}, the history has {expected:?}"));
         }
@@ -430,12 +431,13 @@ impl History {
             match entry {
                 Entry::Change(change) => {
                     changes += 1;
-                    self.stock[usize::from(change.place)].make(change.kind, change.value).map_err(|refusal| {
+                    self.make(change).map_err(|refusal| {
                         format!("change {changes} of the committed session meets refusal {} there", refusal.number())
                     })?;
                 }
                 Entry::Read { places, words: shown } => {
-                    let expected = words(places, |place| self.stock[usize::from(place)]);
+                    let expected: Vec<i64> =
+                        places.iter().flat_map(|&place| self.stock[usize::from(place)].words()).collect();
                     if *shown != expected {
                         return Err(format!(
                             "a read of the committed session showed {shown:?}, there it would show {expected:?}"

@@ -11,3 +11,4 @@ pub mod plant;
 pub mod random;
 pub mod refusal;
 pub mod serve;
+mod value;

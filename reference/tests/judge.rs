@@ -2,7 +2,7 @@
 
 mod common;
 
-use common::line;
+use common::{line, list};
 use reference_plant::generator::{generate, Profile};
 use reference_plant::history::{judge, Held};
 use reference_plant::plant::Plant;
@@ -441,6 +441,107 @@ fn a_sweep_without_the_store_is_refused() {
     assert_eq!(judged(&[("14 2", "0")]), Err(1));
     // A line that is no sweep is not held as one.
     last_answer_is_held(&dialogue, &[("13 1", "23"), ("13", "0 16")], &["0 17"]);
+}
+
+/// The words of a list.
+fn list_words(members: &[i32]) -> String {
+    list(members).words().map(|word| word.to_string()).join(" ")
+}
+
+/// The ways in which a pull of the value from the list shows: calls and answers up to the read that shows it, which is
+/// not among them, with the read and its mark. The list is field 0 of document 0, and key 0 shows it.
+fn pulls_shown(members: &[i32], value: i32) -> [(Vec<(String, String)>, &'static str, u8); 5] {
+    let push = |member: &i32| (format!("1 0 0 5 {member}"), "0".to_string());
+    let loaded: Vec<_> = members.iter().map(push).chain(owned(&[("2 0 1 0 0 0 0 0 0 0 0", "0")])).collect();
+    let (load, pull) = (format!("1 0 0 6 {value}"), format!("5 1 0 0 6 {value}"));
+    let before = format!("0 1 {}", list_words(members));
+    let pulled = [("3", "0 1"), (&pull[..], "0 1")];
+    let committed = [&pulled[..], &[("6 1", "0 1"), ("3", "0 2")]].concat();
+    let cached = [&[("3", "0 1"), ("4 1 0", &before[..])], &committed[1..]].concat();
+    let carried = [&committed[..3], &[("9 0", "0 1"), ("10 0 0", "0 1"), ("11 0", "0 1"), ("3", "0 2")]].concat();
+    let way = |lines: &[(&str, &str)], read, mark| ([&loaded[..], &owned(lines)].concat(), read, mark);
+    [
+        way(&[(&load, "0"), ("3", "0 1")], "4 1 0", 1),
+        way(&pulled, "4 1 0", 2),
+        way(&cached, "4 2 0", 0),
+        way(&committed, "4 2 0", 1),
+        way(&carried, "4 2 0", 1),
+    ]
+}
+
+/// By load, in the session's own read, from the cache, from the buffer and from the store: only these words are held.
+fn pulled_words_are_held(members: &[i32], value: i32, left: &[i32], wrong: &[&str]) {
+    for (dialogue, read, mark) in pulls_shown(members, value) {
+        let wrong: Vec<String> = wrong.iter().map(|words| format!("0 {mark} {words}")).collect();
+        let wrong: Vec<&str> = wrong.iter().map(String::as_str).collect();
+        last_answer_is_held(&dialogue, &[(read, &format!("0 {mark} {}", list_words(left)))], &wrong);
+    }
+}
+
+#[test]
+fn members_that_a_wrong_pull_leaves_are_refused() {
+    let six = &[4, 7, 4, 7, 5, 4];
+    let wrong: &[&[i32]] = &[
+        // Only the first goes, only the last, none; the last stays, the first; those before the last go too.
+        &[7, 4, 7, 5, 4],
+        &[4, 7, 4, 7, 5],
+        six,
+        &[7, 7, 5, 4],
+        &[4, 7, 7, 5],
+        &[],
+        // Others go too, or the order is lost.
+        &[7, 5],
+        &[5, 7, 7],
+    ];
+    let wrong: Vec<String> = wrong.iter().map(|members| list_words(members)).collect();
+    let mut wrong: Vec<&str> = wrong.iter().map(String::as_str).collect();
+    // Values behind the count, and a count that is only one less.
+    wrong.extend(["2 3 7 7 5 7 5 4", "2 3 7 7 5 0 0 4", "2 5 7 7 5 0 0 0"]);
+    pulled_words_are_held(six, 4, &[7, 7, 5], &wrong);
+    // Those before the first equal one go too, or only neighbours do.
+    pulled_words_are_held(six, 7, &[4, 4, 5, 4], &[&list_words(&[4, 5, 4]), &list_words(&[4, 4, 7, 5, 4])]);
+    pulled_words_are_held(six, 5, &[4, 7, 4, 7, 4], &[&list_words(&[4]), &list_words(&[4, 7])]);
+    pulled_words_are_held(&[4, 4, 7, 4], 4, &[7], &[&list_words(&[7, 4]), &list_words(&[4, 7, 4])]);
+}
+
+#[test]
+fn an_emptied_list_that_becomes_absent_is_refused() {
+    let absent = "0 0 0 0 0 0 0 0";
+    pulled_words_are_held(&[4, 4, 4, 4, 4, 4], 4, &[], &[absent, &list_words(&[4]), &list_words(&[4, 4, 4, 4, 4])]);
+    pulled_words_are_held(&[0, 0], 0, &[], &[absent, &list_words(&[0]), &list_words(&[0, 0])]);
+    pulled_words_are_held(&[-2_147_483_648], -2_147_483_648, &[], &[absent]);
+}
+
+#[test]
+fn a_pull_of_what_is_not_there_is_held() {
+    pulled_words_are_held(&[4, 7, 4], 5, &[4, 7, 4], &[&list_words(&[4, 7]), &list_words(&[7, 4]), &list_words(&[])]);
+    // Unused values are 0 and no members.
+    pulled_words_are_held(&[4, 4], 0, &[4, 4], &[&list_words(&[4]), &list_words(&[])]);
+}
+
+/// The session's own read has the right meaning, what was carried to the store the former one.
+#[test]
+fn a_store_with_another_meaning_is_refused() {
+    let dialogue = owned(&[
+        ("1 0 0 5 4", "0"),
+        ("1 0 0 5 7", "0"),
+        ("1 0 0 5 4", "0"),
+        ("2 0 1 0 0 0 0 0 0 0 0", "0"),
+        ("3", "0 1"),
+        ("4 1 0", "0 1 2 3 4 7 4 0 0 0"),
+        ("5 1 0 0 6 4", "0 1"),
+        ("4 1 0", "0 2 2 1 7 0 0 0 0 0"),
+        ("6 1", "0 1"),
+        ("3", "0 2"),
+        ("4 2 0", "0 0 2 1 7 0 0 0 0 0"),
+        ("9 0", "0 1"),
+        ("10 0 0", "0 1"),
+        ("11 0", "0 1"),
+    ]);
+    let former = "0 1 2 2 7 4 0 0 0 0";
+    last_answer_is_held(&dialogue, &[("4 2 0", "0 0 2 1 7 0 0 0 0 0")], &["0 0 2 2 7 4 0 0 0 0"]);
+    let dropped = [("8 300", "0 300"), ("3", "0 3"), ("4 3 0", "0 1 2 1 7 0 0 0 0 0")];
+    last_answer_is_held(&dialogue, &dropped, &[former, "0 1 2 3 4 7 4 0 0 0"]);
 }
 
 fn generated(seed: u64, lines: u64, profile: Profile) -> (Vec<u8>, Vec<u8>) {
