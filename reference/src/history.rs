@@ -2,7 +2,8 @@
 //!
 //! No plant is asked here. An accepted call is noted and its answer held to what the history says;
 //! a refused one notes nothing, except that 3 and 4 end the session's leases. Of refusals those of
-//! apply and sweep are held, because what a sweep left shows in them.
+//! apply and sweep are held, because what a sweep left shows in them, and for what a pull left those
+//! of load and 6, 7 and 8 of change.
 
 use std::collections::VecDeque;
 use std::fmt;
@@ -14,6 +15,9 @@ use crate::lines::{call_columns, parse, read_number, Call, CALL_COLUMNS};
 use crate::plant::{CHANGES, KEYS, KEY_PLACES, PLACES, ROWS, SWEPT, WORKERS};
 use crate::refusal::Refusal;
 use crate::value::Value;
+
+/// The refusals that a field gives to a change.
+const UNFIT: [Refusal; 3] = [Refusal::WrongKind, Refusal::ListFull, Refusal::SumOutside];
 
 /// What answers were held to the history, in numbers.
 #[derive(Clone, Copy, Default, PartialEq, Eq, Debug)]
@@ -34,8 +38,9 @@ pub struct Held {
     /// Cached keys that gave way, and those that a lapse dropped.
     pub gave_way: u64,
     pub dropped: u64,
-    /// Changes of committed pages.
+    /// Changes of committed pages, and loads and changes refused 6, 7 or 8.
     pub committed_changes: u64,
+    pub unfit: u64,
     pub reports: u64,
     pub takes: u64,
     /// Applies that were accepted, and sessions that they carried to the store.
@@ -55,7 +60,8 @@ impl fmt::Display for Held {
             to,
             "no contradiction: {} lines, {} accepted; {} pages, {} committed, {} of them buffered; \
              {} reads held as answered, {} of them again at their commit; \
-             marks held: {} hits, {} misses, {} own; {} keys gave way, {} dropped; {} committed changes; {} reports; \
+             marks held: {} hits, {} misses, {} own; {} keys gave way, {} dropped; {} committed changes, \
+             {} refused for their field; {} reports; \
              {} takes, {} applies, {} sessions carried, {} deletes; {} sweeps of {} rows, {} refused; \
              {} applies to full rows refused",
             self.lines,
@@ -71,6 +77,7 @@ impl fmt::Display for Held {
             self.gave_way,
             self.dropped,
             self.committed_changes,
+            self.unfit,
             self.reports,
             self.takes,
             self.applies,
@@ -278,7 +285,8 @@ impl History {
         }
     }
 
-    /// Refusals 3 and 4 end the session that met them; its leases are gone. Those of apply and sweep are held.
+    /// Refusals 3 and 4 end the session that met them; its leases are gone. Those of load, apply and sweep are held,
+    /// and 6, 7 and 8 of change.
     fn refused(&mut self, call: &[u8], refusal: u8) -> Result<(), String> {
         let Ok(Call { call, numbers }) = parse(call) else {
             return Ok(());
@@ -288,7 +296,10 @@ impl History {
                 self.cached.end(page);
             }
         }
+        let unfit = UNFIT.map(Refusal::number).contains(&refusal);
         let due = match call {
+            1 => self.load_refusal(&numbers),
+            5 if unfit => self.change_refusal(&numbers)?,
             10 => self.apply_refusal(numbers[0], numbers[1]),
             13 => self.sweep_refusal(),
             _ => return Ok(()),
@@ -297,6 +308,7 @@ impl History {
             let due = due.map_or("none".to_string(), |due| due.number().to_string());
             return Err(format!("was refused {refusal}, the history has {due}"));
         }
+        self.held.unfit += u64::from(unfit);
         self.held.sweeps_refused += u64::from(call == 13);
         self.held.rows_full += u64::from(due == Some(Refusal::RowsFull));
         Ok(())
@@ -336,12 +348,19 @@ impl History {
         Ok(value)
     }
 
-    fn load(&mut self, numbers: &[i64]) -> Result<(), String> {
-        let change = change_of(numbers[0], numbers[1], numbers[2], numbers[3]).map_err(out_of_range)?;
-        // A later load would change the place of pages that were held already.
-        if !self.pages.is_empty() {
-            return Err("load was accepted after a session had begun".to_string());
+    /// The refusal that a load meets. After set-up it would change the place of pages that were held already.
+    fn load_refusal(&self, numbers: &[i64]) -> Option<Refusal> {
+        match change_of(numbers[0], numbers[1], numbers[2], numbers[3]) {
+            Err(refusal) => Some(refusal),
+            Ok(_) if !self.pages.is_empty() => Some(Refusal::SessionBegun),
+            Ok(_) if !self.near => Some(Refusal::StoreAway),
+            Ok(change) => self.stock[usize::from(change.place)].after(&change).err(),
         }
+    }
+
+    fn load(&mut self, numbers: &[i64]) -> Result<(), String> {
+        accepted("load", self.load_refusal(numbers))?;
+        let change = change_of(numbers[0], numbers[1], numbers[2], numbers[3]).map_err(out_of_range)?;
         accepted("load", self.make(&change).err())
     }
 
@@ -408,9 +427,19 @@ impl History {
         Ok(())
     }
 
+    /// The refusal that the field gives to a change: 6, 7 or 8. Slots, leases and known fields are not told here.
+    fn change_refusal(&self, numbers: &[i64]) -> Result<Option<Refusal>, String> {
+        match (change_of(numbers[1], numbers[2], numbers[3], numbers[4]), self.open(numbers[0])) {
+            (Err(refusal), _) => Ok(Some(refusal)),
+            (_, Err(_)) => Ok(Some(Refusal::NoSession)),
+            (Ok(change), Ok(page)) => Ok(self.seen(page, change.place)?.after(&change).err()),
+        }
+    }
+
     fn change(&mut self, numbers: &[i64], count: i64) -> Result<(), String> {
         let page = self.open(numbers[0])?;
         let change = change_of(numbers[1], numbers[2], numbers[3], numbers[4]).map_err(out_of_range)?;
+        accepted("change", self.change_refusal(numbers)?)?;
         self.cached.change(page, change.place, self.clock);
         self.pages[page].entries.push(Entry::Change(change));
         let changes = self.pages[page].changes().count();

@@ -65,6 +65,7 @@ fn a_right_dialogue_is_held() {
         gave_way: 0,
         dropped: 0,
         committed_changes: 2,
+        unfit: 0,
         reports: 2,
         takes: 2,
         applies: 3,
@@ -110,8 +111,14 @@ fn a_tampered_dialogue_is_refused() {
         (13, "0 2", 13),
         // A commit that was refused does not make the session buffered.
         (10, "15", 11),
-        // A change that was refused is not on the page.
-        (6, "8", 7),
+        // A change that was refused is not on the page; 6, 7 and 8 are refused at once where the field allows it.
+        (6, "5", 7),
+        (6, "6", 6),
+        (6, "7", 6),
+        (6, "8", 6),
+        (1, "6", 1),
+        (1, "12", 1),
+        (1, "20", 1),
         // Workers: another session, a word that cannot come, done twice, gone too soon.
         (14, "0 2", 14),
         (15, "0 1", 15),
@@ -542,6 +549,49 @@ fn a_store_with_another_meaning_is_refused() {
     last_answer_is_held(&dialogue, &[("4 2 0", "0 0 2 1 7 0 0 0 0 0")], &["0 0 2 2 7 4 0 0 0 0"]);
     let dropped = [("8 300", "0 300"), ("3", "0 3"), ("4 3 0", "0 1 2 1 7 0 0 0 0 0")];
     last_answer_is_held(&dialogue, &dropped, &[former, "0 1 2 3 4 7 4 0 0 0"]);
+}
+
+/// How many members a pull left shows in 7: a push is refused where the list is full and only there.
+#[test]
+fn the_room_that_a_pull_makes_is_held() {
+    let push = |member| (format!("1 0 0 5 {member}"), "0".to_string());
+    let loaded: Vec<_> = [4, 7, 4, 7, 5, 4].map(push).to_vec();
+    last_answer_is_held(&loaded, &[("1 0 0 5 4", "7")], &["0", "1", "6", "8", "12", "20"]);
+    last_answer_is_held(&loaded, &[("1 0 0 4 4", "0")], &["7"]);
+    last_answer_is_held(&loaded, &[("1 0 0 4 9", "7")], &["0", "6"]);
+    let load = [("1 0 0 6 4", "0"), ("1 0 0 5 9", "0"), ("1 0 0 5 9", "0"), ("1 0 0 5 9", "0")];
+    for lines in 1..=4 {
+        last_answer_is_held(&loaded, &load[..lines], &["6", "7", "8"]);
+    }
+    last_answer_is_held(&loaded, &[&load[..], &[("1 0 0 5 9", "7")]].concat(), &["0", "6"]);
+    let session = [("3", "0 1"), ("5 1 0 0 6 4", "0 1"), ("5 1 0 0 5 9", "0 2"), ("5 1 0 0 4 8", "0 3")];
+    last_answer_is_held(&loaded, &[("3", "0 1"), ("5 1 0 0 5 4", "7")], &["0 1", "6", "8"]);
+    for lines in 2..=4 {
+        last_answer_is_held(&loaded, &session[..lines], &["6", "7", "8"]);
+    }
+    let full = [&session[..], &[("5 1 0 0 5 9", "0 4"), ("5 1 0 0 5 9", "7")]].concat();
+    last_answer_is_held(&loaded, &full, &["0 5", "6", "8"]);
+}
+
+/// Pull is refused 6 on a number and only there, by load and by a session.
+#[test]
+fn the_kind_that_a_pull_needs_is_held() {
+    let number = owned(&[("1 0 0 1 4", "0")]);
+    last_answer_is_held(&number, &[("1 0 0 6 4", "6")], &["0", "7", "8"]);
+    last_answer_is_held(&number, &[("3", "0 1"), ("5 1 0 0 6 4", "6")], &["0 1", "7", "8"]);
+    last_answer_is_held(&[], &[("1 0 0 6 4", "0")], &["6", "7"]);
+    last_answer_is_held(&[], &[("3", "0 1"), ("5 1 0 0 6 4", "0 1")], &["6", "7"]);
+    // An emptied list is none the less a list: inc does not go with it.
+    let emptied = owned(&[("1 0 0 5 4", "0"), ("1 0 0 5 4", "0"), ("1 0 0 6 4", "0")]);
+    last_answer_is_held(&emptied, &[("1 0 0 3 1", "6")], &["0"]);
+    last_answer_is_held(&emptied, &[("3", "0 1"), ("5 1 0 0 3 1", "6")], &["0 1", "8"]);
+    last_answer_is_held(&emptied, &[("3", "0 1"), ("5 1 0 0 6 4", "0 1")], &["6"]);
+    // Other conditions of load stand before.
+    last_answer_is_held(&number, &[("14 0", "0"), ("1 0 0 6 4", "20")], &["6", "0", "12"]);
+    last_answer_is_held(&number, &[("3", "0 1"), ("1 0 0 6 4", "12")], &["6", "0", "20"]);
+    last_answer_is_held(&number, &[("1 0 0 7 4", "1")], &["6", "0", "12"]);
+    last_answer_is_held(&number, &[("3", "0 1"), ("5 1 64 0 6 4", "1")], &["6", "7"]);
+    last_answer_is_held(&number, &[("5 1 0 0 6 4", "2")], &["6", "7", "0 1"]);
 }
 
 fn generated(seed: u64, lines: u64, profile: Profile) -> (Vec<u8>, Vec<u8>) {
