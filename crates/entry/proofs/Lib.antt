@@ -1,5 +1,5 @@
--- What a call is answered and what it leaves, calls run one after the other, the three demands of the code, equal calls, and the order of the
--- cached keys and of the rows.
+-- What a call is answered and what it leaves, calls run one after the other, the three demands of the code, equal calls, the order of the
+-- cached keys and of the rows, and what pulls leave.
 mod Laws
 mod Asked
 mod Done
@@ -10,3 +10,4 @@ pub mod Listed
 pub mod Equal
 pub mod CacheOrder
 pub mod RowOrder
+pub mod Pulls

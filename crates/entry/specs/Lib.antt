@@ -1,5 +1,5 @@
 -- What the entry promises of one call and of a list, demands 1 and 2 of its calls, demand 3 of every list of calls, that equal calls are answered
--- alike, and the order of the cached keys and of the rows.
+-- alike, the order of the cached keys and of the rows, and what pulls leave.
 pub mod Ran
 pub mod Refused
 pub mod RanAll
@@ -9,3 +9,4 @@ pub mod Listed
 pub mod Equal
 pub mod CacheOrder
 pub mod RowOrder
+pub mod Pulls

@@ -1,13 +1,13 @@
 -- What each change answers in each of its cases: a law a case, whose premises are the tests that lead there and what the callees answered.
 use mathlib.Core.Path.{_≡_, refl, sym, _∙_, ap}
-use mathlib.Core.Bool.{true, false, cond, not, true≢false}
-use mathlib.Core.List.{List, [], _∷_, _++_}
-use Prim.Native.Nat.{ℕ, _+_, _-_, _≤_, _<_, _^_}
+use mathlib.Core.Bool.{true, false, cond, not}
+use mathlib.Core.List.{List, [], _∷_, _++_, map-id}
+use Prim.Native.Nat.{ℕ, _+_, _≤_, _<_, _^_}
 use native.Mathlib.Numerals.{add-one}
 use native.Mathlib.Omega.{arith}
 use lib.Dec.{eqb}
 use lib.IntN.{ℤ, pos, _+ℤ_}
-use lib.ListN.{length, getD, take, set, length-append}
+use lib.ListN.{length, getD, take, set, replicate, length-append, length-take}
 use lib.Seq.{take-suc-set}
 use lib.Signed.{leZ, ltZ, mag}
 use mir.Syntax.{w32, w64}
@@ -16,17 +16,17 @@ use mir.Facts.{toZ-ofZ}
 use borrow.Author.Tests.{ne-eqb, le-leb, lt-leb}
 use Rattle.rules.proofs.Laws.{byCase}
 use Rattle.rules.specs.Limits.{memberLimit, lowest, highest}
-use Rattle.rules.specs.Lists.{dropAt}
 use Rattle.rules.specs.Values as S
 use Rattle.rules.specs.Values.{eqZ, fits32, kindOfField, valuesOf}
 use Rattle.rules.specs.Changes as C
-use Rattle.rules.specs.Changes.{Kind, kindOf, kindNumber, change, putLast, member, pullFirst, becomes}
-use Rattle.lists.proofs.Loops.{Removing, remove-start, remove-end, length-dropAt, take-removed}
-use Rattle.lists.proofs.Forms.{form-push, form-remove}
+use Rattle.rules.specs.Changes.{Kind, kindOf, kindNumber, change, putLast, member, pullAll, becomes}
+use Rattle.lists.specs.Table.{counted, tableForm}
+use Rattle.lists.proofs.Forms.{form-push, form-parts}
+use Rattle.lists.proofs.Sift.{Sifting, sift-start, sift-in, sift-out, sift-done}
 use Rattle.field.specs.declared.Field.{Field}
 use Rattle.field.specs.declared.Applied.{Applied}
 use Rattle.field.specs.View.{viewField, viewApplied, fieldForm, indexOf}
-use Rattle.field.proofs.Signed.{held, held-is, in-range, fits-are, leZ-is}
+use Rattle.field.proofs.Signed.{held, held-is, in-range, fits-are, leZ-is, bits-same, bits-other}
 use Rattle.field.proofs.ViewLaws.{members, view-absent, view-number, view-list, byKind, first-values, few, form-of, is-form}
 use Rattle.field.proofs.Members.{found, not-found}
 
@@ -54,17 +54,11 @@ module _ (v : ℤ) where
   add-is (S.number z) n = absurd (n refl)
   add-is (S.list l) n = refl
 
-  pull-is : (g : S.Field) → (kindOfField g ≡ 1 → ⊥) → member v (valuesOf g) ≡ true → change C.pull v g ≡ becomes (S.list (pullFirst v (valuesOf g)))
-  unfolding change member
-  pull-is S.absent n t = absurd (true≢false (sym t))
-  pull-is (S.number z) n t = absurd (n refl)
-  pull-is (S.list l) n t = refl
-
-  pull-kept : (g : S.Field) → (kindOfField g ≡ 1 → ⊥) → pullFirst v (valuesOf g) ≡ valuesOf g → change C.pull v g ≡ becomes g
+  pull-is : (g : S.Field) → (kindOfField g ≡ 0 → ⊥) → (kindOfField g ≡ 1 → ⊥) → change C.pull v g ≡ becomes (S.list (pullAll v (valuesOf g)))
   unfolding change
-  pull-kept S.absent n e = refl
-  pull-kept (S.number z) n e = absurd (n refl)
-  pull-kept (S.list l) n e = ap (λ x. becomes (S.list x)) e
+  pull-is S.absent m n = absurd (m refl)
+  pull-is (S.number z) m n = absurd (n refl)
+  pull-is (S.list l) m n = refl
 
 module _ (f : Field) (v : ℤ) where
   no-number : (f .kind ≡ 1 → ⊥) → kindOfField (viewField f) ≡ 1 → ⊥
@@ -131,54 +125,67 @@ module _ (f : Field) (v : ℤ) where
             table = form-push memberLimit fits32 (eqZ (pos 0)) n (f .values) (held v) h (rw (toZ-ofZ w) (fits-are v w)) t;
           })
 
-  -- ── add and pull: i is what the search for v answered ──
+  -- ── add: i is what the search for v answered ──
   module _ (i : ℕ) (w : SFits w32 v) (l : length (f .values) ≡ memberLimit) (m : f .kind ≡ 1 → ⊥) (e : i ≡ indexOf (held v) (members f)) where
     at-v : i ≡ indexOf v (members f)
     at-v = rw (toZ-ofZ w) at e
 
     pub add-member : i < memberLimit → viewApplied (answer 0 f) ≡ change C.add v (viewField f)
     unfolding viewApplied
-    add-member h = sym (add-is v (viewField f) (no-number m) ∙ rw (found v (members f) i at-v h .is))
+    add-member h = sym (add-is v (viewField f) (no-number m) ∙ rw (found v (members f) i at-v h))
 
     pub add-new : (r : Applied) → memberLimit ≤ i → viewApplied r ≡ change C.push (held v) (viewField f) → viewApplied r ≡ change C.add v (viewField f)
     add-new r h q =
         rw (toZ-ofZ w) at q
         ∙ push-is v (viewField f) (no-number m)
-        ∙ sym (add-is v (viewField f) (no-number m) ∙ rw (not-found v (members f) i at-v (few f l) h .0))
+        ∙ sym (add-is v (viewField f) (no-number m) ∙ rw (not-found v (members f) i at-v (few f l) h))
 
-    pub pull-none : memberLimit ≤ i → viewApplied (answer 0 f) ≡ change C.pull v (viewField f)
-    unfolding viewApplied
-    pull-none h = sym (pull-kept v (viewField f) (no-number m) (not-found v (members f) i at-v (few f l) h .1))
+  -- ── pull ──
+  pub pull-none : f .kind ≡ 0 → viewApplied (answer 0 f) ≡ change C.pull v (viewField f)
+  unfolding viewApplied change
+  pull-none a = rw (view-absent f a)
 
-    pub pull-some : (r : Field) → i < memberLimit → viewField r ≡ S.list (dropAt i (members f)) → viewApplied (answer 0 r) ≡ change C.pull v (viewField f)
-    unfolding viewApplied
-    pull-some r h q =
-        let t = found v (members f) i at-v h in
-        ap becomes (q ∙ ap S.list (t .gone)) ∙ sym (pull-is v (viewField f) (no-number m) (t .is))
+  pub pull-some : (r : Field) → SFits w32 v → (f .kind ≡ 0 → ⊥) → (f .kind ≡ 1 → ⊥) → viewField r ≡ S.list (pullAll (held v) (members f)) → viewApplied (answer 0 r) ≡ change C.pull v (viewField f)
+  unfolding viewApplied
+  pull-some r w n m q =
+      ap becomes (rw (toZ-ofZ w) at q) ∙ sym (pull-is v (viewField f) (λ e. omega (arith, rw (view-list f n m) at e)) (no-number m))
 
-    pub pull-below : i < memberLimit → i < length (members f)
-    pull-below h = found v (members f) i at-v h .below
+-- ── the members that do not equal v, found by a loop ──
+abbrev pub Pulling : ℤ → ℕ → List ℤ → ℕ → List ℤ → ℕ → Type 0
+Pulling v n xs = Sifting (λ x. x) (λ x. not (eqZ x v)) memberLimit fits32 (eqZ (pos 0)) n xs
 
--- ── the value at i taken out ──
-module _ (f : Field) (n i : ℕ) (e : n ≡ length (members f)) (l : length (f .values) ≡ memberLimit) (h : i < length (members f)) where
-  pub without-start : Removing (pos 0) i (f .values) memberLimit (f .values) i
-  without-start = remove-start l (omega (arith, few f l))
+module _ (f : Field) (v : ℤ) (w : SFits w32 v) (n : ℕ) (l : length (f .values) ≡ memberLimit) (e : n ≡ length (members f)) where
+  few-values : n ≤ memberLimit
+  few-values = omega (arith, few f l)
 
-  module _ (vs : List ℤ) (j : ℕ) (inv : Removing (pos 0) i (f .values) memberLimit vs j) (p : memberLimit ≤ j + 1) where
-    pub without-view : viewField (listOf (n - 1) (set vs j (pos 0))) ≡ S.list (dropAt i (members f))
-    without-view =
-        let k : n ≤ length (f .values) = omega (arith, few f l) in
-        let q : take n (f .values) ≡ members f = rw e (first-values f l) in
-        list-view (n - 1) (set vs j (pos 0)) ∙ ap S.list (rw (remove-end inv p, ← q) (take-removed i n (f .values) (pos 0) (omega arith) k))
+  pub pull-start : Pulling (held v) n (f .values) 0 (replicate memberLimit (pos 0)) 0
+  unfolding counted tableForm
+  pull-start = sift-start 0 (replicate memberLimit (pos 0)) l refl refl refl
 
-    pub without-form : fieldForm f ≡ true → fieldForm (listOf (n - 1) (set vs j (pos 0))) ≡ true
-    without-form k =
-        let t = rw (form-of k .count, ← e) at (form-of k .table) in
-        is-form (record {
-          kind = rw without-view;
-          count = rw without-view (omega (arith, length-dropAt i (members f) h));
-          table = rw (remove-end inv p) (form-remove memberLimit fits32 (eqZ (pos 0)) i n (f .values) (pos 0) (omega arith) refl t);
-        })
+  module _ {m : ℕ} {vs : List ℤ} {i : ℕ} (inv : Pulling (held v) n (f .values) m vs i) where
+    module _ (h : i < n) (k : mag (getD (f .values) i (pos 0)) < 2 ^ 31) where
+      pub pull-out : ofZ w32 (getD (f .values) i (pos 0)) ≡ ofZ w32 v → Pulling (held v) n (f .values) m vs (i + 1)
+      pull-out q = sift-out inv (pos 0) (omega (arith, few-values)) (rw (toZ-ofZ w, bits-same (getD (f .values) i (pos 0)) v k w q))
+
+      pub pull-in : (ofZ w32 (getD (f .values) i (pos 0)) ≡ ofZ w32 v → ⊥) → Pulling (held v) n (f .values) (m + 1) (set vs m (held (getD (f .values) i (pos 0)))) (i + 1)
+      pull-in q = rw (held-is (getD (f .values) i (pos 0)) k) (sift-in inv (pos 0) (omega (arith, few-values)) (rw (toZ-ofZ w, bits-other (getD (f .values) i (pos 0)) v k w q)))
+
+    module _ (h : n ≤ i) where
+      pub pulled : viewField (listOf m vs) ≡ S.list (pullAll v (members f))
+      unfolding counted
+      pulled =
+          let q : take n (f .values) ≡ members f = rw e (first-values f l) in
+          list-view m vs ∙ ap S.list (rw (map-id vs, map-id (f .values), toZ-ofZ w, q) at (sift-done inv (omega (arith, few-values))))
+
+      pub pulled-form : fieldForm f ≡ true → fieldForm (listOf m vs) ≡ true
+      pulled-form k =
+          let t = inv .form (rw (form-of k .count, ← e) at (form-of k .table)) in
+          let p = form-parts memberLimit fits32 (eqZ (pos 0)) m vs t in
+          is-form {f = listOf m vs} (record {
+            kind = rw (list-view m vs) refl;
+            count = rw (list-view m vs, length-take) (omega (arith, p .within, p .long));
+            table = t;
+          })
 
 -- ── the change of a number ──
 kind-is : (k : Kind) → kindOf (kindNumber k) ≡ k

@@ -1,8 +1,8 @@
--- The index of the first member that equals a value: as `member` and `pullFirst` of the rules know it, and the loop that finds it.
-use mathlib.Core.Path.{_≡_, refl, sym, _∙_, ap}
+-- The index of the first member that equals a value: as `member` of the rules knows it, and the loop that finds it.
+use mathlib.Core.Path.{_≡_, refl, sym, ap}
 use mathlib.Core.Bool.{true, false, true≢false}
 use mathlib.Core.List.{List, [], _∷_, map-id}
-use Prim.Native.Nat.{ℕ, suc, _+_, _≤_, _<_, _^_}
+use Prim.Native.Nat.{ℕ, _+_, _≤_, _<_, _^_}
 use native.Mathlib.Omega.{arith}
 use lib.IntN.{ℤ, pos}
 use lib.ListN.{length, getD}
@@ -11,9 +11,8 @@ use mir.Syntax.{w32}
 use mir.Val.{SFits, ofZ}
 use mir.Facts.{toZ-ofZ}
 use Rattle.rules.proofs.Laws.{byCase}
-use Rattle.rules.specs.Changes.{member, pullFirst}
+use Rattle.rules.specs.Changes.{member}
 use Rattle.rules.specs.Limits.{memberLimit}
-use Rattle.rules.specs.Lists.{dropAt}
 use Rattle.rules.specs.Values.{eqZ}
 use Rattle.lists.specs.Find.{firstAt}
 use Rattle.lists.specs.Table.{counted}
@@ -25,51 +24,26 @@ use Rattle.field.proofs.ViewLaws.{members, first-values}
 
 module _ (v : ℤ) where
   -- where a member stands, counted from i
-  record Hit (xs : List ℤ) (i : ℕ) : Type 0 where
-    k : ℕ
-    at : firstAt (λ x. eqZ x v) memberLimit i xs ≡ i + k
-    below : k < length xs
-    gone : dropAt k xs ≡ pullFirst v xs
-
-  hit : (xs : List ℤ) (i : ℕ) → member v xs ≡ true → Hit xs i
-  unfolding member firstAt pullFirst
+  hit : (xs : List ℤ) (i : ℕ) → member v xs ≡ true → firstAt (λ x. eqZ x v) memberLimit i xs < i + length xs
+  unfolding member firstAt
   hit [] i e = absurd (true≢false (sym e))
   hit (x ∷ xs) i e =
-      byCase (eqZ x v)
-      (λ t. record { k = 0; at = simp t (omega arith); below = omega arith; gone = simp t })
-      (λ t. let h = hit xs (i + 1) (simp t at e) in
-      record { k = suc (h .k); at = simp t (h .at ∙ omega arith); below = omega (arith, h .below); gone = simp t (ap (λ l. x ∷ l) (h .gone)) })
+      byCase (eqZ x v) (λ t. simp t (omega arith)) (λ t. simp t (omega (arith, hit xs (i + 1) (simp t at e))))
 
-  missed : (xs : List ℤ) (i : ℕ) → member v xs ≡ false → (firstAt (λ x. eqZ x v) memberLimit i xs ≡ memberLimit) × (pullFirst v xs ≡ xs)
-  unfolding member firstAt pullFirst
-  missed [] i e = (refl, refl)
-  missed (x ∷ xs) i e =
-      byCase (eqZ x v)
-      (λ t. absurd (true≢false (simp t at e)))
-      (λ t. let h = missed xs (i + 1) (simp t at e) in simp t (h .0, ap (λ l. x ∷ l) (h .1)))
+  missed : (xs : List ℤ) (i : ℕ) → member v xs ≡ false → firstAt (λ x. eqZ x v) memberLimit i xs ≡ memberLimit
+  unfolding member firstAt
+  missed [] i e = refl
+  missed (x ∷ xs) i e = byCase (eqZ x v) (λ t. absurd (true≢false (simp t at e))) (λ t. simp t (missed xs (i + 1) (simp t at e)))
 
   -- i is what the search for v answered
   module _ (xs : List ℤ) (i : ℕ) (e : i ≡ indexOf v xs) where
-    pub record Found : Type 0 where
-      pub is : member v xs ≡ true
-      pub below : i < length xs
-      pub gone : dropAt i xs ≡ pullFirst v xs
-
-    pub found : i < memberLimit → Found
+    pub found : i < memberLimit → member v xs ≡ true
     unfolding indexOf
-    found h =
-        byCase (member v xs)
-        (λ t. let w = hit xs 0 t in
-        let q : w .k ≡ i = omega (arith, w .at) in
-        record { is = t; below = rw q at (w .below); gone = rw q at (w .gone) })
-        (λ t. absurd (omega (arith, missed xs 0 t .0)))
+    found h = byCase (member v xs) (λ t. t) (λ t. absurd (omega (arith, missed xs 0 t)))
 
-    pub not-found : length xs ≤ memberLimit → memberLimit ≤ i → (member v xs ≡ false) × (pullFirst v xs ≡ xs)
+    pub not-found : length xs ≤ memberLimit → memberLimit ≤ i → member v xs ≡ false
     unfolding indexOf
-    not-found l h =
-        byCase (member v xs)
-        (λ t. let w = hit xs 0 t in absurd (omega (arith, w .at, w .below)))
-        (λ t. (t, missed xs 0 t .1))
+    not-found l h = byCase (member v xs) (λ t. absurd (omega (arith, hit xs 0 t))) (λ t. t)
 
 -- ── the search for a value, among the first n of the values xs: l are those that count ──
 abbrev pub Searching : ℤ → ℕ → List ℤ → List ℤ → ℕ → Type 0

@@ -6,12 +6,11 @@ ghost use Prim.Native.Nat.{_≤_, _<_};
 ghost use lib.Dec.{leb};
 ghost use lib.IntN.{pos, _+ℤ_};
 ghost use lib.ListN.{length, getD, drop};
-ghost use Rattle.rules.specs.Lists.{dropAt};
 ghost use Rattle.rules.specs.Limits.{memberLimit, wordsPerField};
 ghost use Rattle.rules.specs.Values as S;
 ghost use Rattle.rules.specs.Values.{kindOfField, valuesOf, show};
 ghost use Rattle.rules.specs.Changes as C;
-ghost use Rattle.rules.specs.Changes.{change, kindOf};
+ghost use Rattle.rules.specs.Changes.{pullAll, change, kindOf};
 ghost use Rattle.field.specs.View.{viewField, viewApplied, fieldForm, Exact, indexOf, numberKind};
 
 // Absent (count 0), a number (count 1) or a list of count values. Values that do not count are 0.
@@ -140,25 +139,30 @@ impl Field {
         Field::LIMIT
     }
 
-    // The list of the values without the one at i: those after it move down.
-    fn without(self, i: usize) -> Self
-        requires { ⌜ i < length (valuesOf (viewField self)) ⌝ }
-        ensures shows { λ r. ⌜ viewField r ≡ S.list (dropAt i (valuesOf (viewField self))) ⌝ }
+    // The list of the values that do not equal v.
+    fn without(self, v: i32) -> Self
+        ensures shows { λ r. ⌜ viewField r ≡ S.list (pullAll v (valuesOf (viewField self))) ⌝ }
         ensures form { λ r. ⌜ (fieldForm self ≡ true → fieldForm r ≡ true) ⌝ }
     {
         let n = self.len();
         let old = self.values;
-        let mut values = old;
-        let mut j = i;
-        while j + 1 < Field::LIMIT {
-            values[j] = old[j + 1];
-            j += 1;
+        let mut kept = [0i32; Field::LIMIT];
+        let mut m: usize = 0;
+        let mut i: usize = 0;
+        while i < n {
+            let x = old[i];
+            if x != v {
+                kept[m] = x;
+                m += 1;
+            }
+            i += 1;
         }
-        values[j] = 0;
+        let count = m as u8;
+        let kind = Field::LIST; // be it empty
         Self {
-            kind: Field::LIST,
-            count: (n - 1) as u8,
-            values,
+            kind,
+            count,
+            values: kept,
         }
     }
 
@@ -199,7 +203,7 @@ impl Field {
         }
     }
 
-    // v put last, in a field that is no number; absent is the empty list, here and in the next two.
+    // v put last, in a field that is no number; absent is the empty list, here and in the next one.
     fn push(self, v: i32) -> Applied
         requires { ⌜ (self .kind ≡ numberKind → ⊥) ⌝ }
         ensures shows { λ r. ⌜ viewApplied r ≡ change C.push v (viewField self) ⌝ }
@@ -241,15 +245,14 @@ impl Field {
         self.push(v)
     }
 
-    // The first member that equals v taken out.
+    // Every member that equals v taken out: a list stays a list, be it empty, and absent stays absent.
     fn pull(self, v: i32) -> Applied
         requires { ⌜ (self .kind ≡ numberKind → ⊥) ⌝ }
         ensures shows { λ r. ⌜ viewApplied r ≡ change C.pull v (viewField self) ⌝ }
         ensures form { λ r. ⌜ (fieldForm self ≡ true → fieldForm (r .field) ≡ true) ⌝ }
         ensures exact { λ r. ⌜ Exact self r ⌝ }
     {
-        let i = self.index_of(v);
-        if Field::LIMIT <= i {
+        if self.kind == Field::ABSENT {
             return Applied {
                 refusal: Applied::DONE,
                 field: self,
@@ -257,7 +260,7 @@ impl Field {
         }
         Applied {
             refusal: Applied::DONE,
-            field: self.without(i),
+            field: self.without(v),
         }
     }
 

@@ -1,4 +1,4 @@
--- Lines and inputs worked out from paper 01, byte by byte: the run that it prints, the columns of every call, and what is not in form.
+-- Lines and inputs worked out from the papers, byte by byte: the run that it prints, the columns of every call, and what is not in form.
 use Prim.Native.Nat.{_-_, ℕ}
 use mathlib.Core.Path.{_≡_, refl}
 use mathlib.Core.List.{List, [], _++_, _∷_}
@@ -62,6 +62,25 @@ pub record Worked : Type 0 where
       ∷ row (48 ∷ []) ((49 ∷ []) ∷ [])
       ∷ row (48 ∷ []) ((49 ∷ []) ∷ [])
       ∷ row (48 ∷ []) ((48 ∷ []) ∷ [])
+      ∷ [])
+  -- M6 as request (c) has it, by loads: 4, 7, 4 are pushed, 4 is pulled, and a read prints the list of 7 alone
+  pub recalled : prints (linesOf (rows
+      (row (49 ∷ []) ((48 ∷ []) ∷ (48 ∷ []) ∷ (53 ∷ []) ∷ (52 ∷ []) ∷ [])
+      ∷ row (49 ∷ []) ((48 ∷ []) ∷ (48 ∷ []) ∷ (53 ∷ []) ∷ (55 ∷ []) ∷ [])
+      ∷ row (49 ∷ []) ((48 ∷ []) ∷ (48 ∷ []) ∷ (53 ∷ []) ∷ (52 ∷ []) ∷ [])
+      ∷ row (49 ∷ []) ((48 ∷ []) ∷ (48 ∷ []) ∷ (54 ∷ []) ∷ (52 ∷ []) ∷ [])
+      ∷ row (50 ∷ []) ((48 ∷ []) ∷ (49 ∷ []) ∷ (48 ∷ []) ∷ (48 ∷ []) ∷ (48 ∷ []) ∷ (48 ∷ []) ∷ (48 ∷ []) ∷ (48 ∷ []) ∷ (48 ∷ []) ∷ (48 ∷ []) ∷ [])
+      ∷ row (51 ∷ []) []
+      ∷ row (52 ∷ []) ((49 ∷ []) ∷ (48 ∷ []) ∷ [])
+      ∷ []))) setup
+      ≡ rows
+      (row (48 ∷ []) []
+      ∷ row (48 ∷ []) []
+      ∷ row (48 ∷ []) []
+      ∷ row (48 ∷ []) []
+      ∷ row (48 ∷ []) []
+      ∷ row (48 ∷ []) ((49 ∷ []) ∷ [])
+      ∷ row (48 ∷ []) ((49 ∷ []) ∷ (50 ∷ []) ∷ (49 ∷ []) ∷ (55 ∷ []) ∷ (48 ∷ []) ∷ (48 ∷ []) ∷ (48 ∷ []) ∷ (48 ∷ []) ∷ (48 ∷ []) ∷ [])
       ∷ [])
   -- every call, its numbers in the paper's order; the ends of a number's range
   pub load : said (row (49 ∷ []) ((49 ∷ []) ∷ (50 ∷ []) ∷ (51 ∷ []) ∷ (45 ∷ 52 ∷ []) ∷ [])) ≡ says (Load (pos 1) (pos 2) (pos 3) (negsuc 3))
@@ -261,6 +280,7 @@ unfolding setup step conditions accepted mapped loaded begun afterRead cacheAfte
 worked =
     record {
       paper = refl;
+      recalled = refl;
       load = refl;
       map = refl;
       begin = refl;

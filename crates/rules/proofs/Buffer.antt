@@ -14,7 +14,7 @@ use Rattle.rules.specs.Changes.{Update}
 use Rattle.rules.specs.Tables.{Batch, numbersOf, isBuffered, oldest, isOldest, unbuffer, pending, Hand, empty, holds, full, replied, handed, inHand, anyHand, Plant, removable}
 use Rattle.rules.specs.Effects.{carried}
 use Rattle.rules.proofs.Laws.{byCase, self, eqb-sym, pushed-room}
-use Rattle.rules.proofs.Tests.{Once, all-head, all-tail, any-upto}
+use Rattle.rules.proofs.Tests.{Once, all-head, all-tail, length-keep, any-upto}
 use Rattle.rules.proofs.KeptParts.{NoRows, TailFree, HandOk}
 
 -- ── lists ──
@@ -141,10 +141,6 @@ hand-unbuffer n rows (b ∷ l) (holds m r) h (inr y) =
     (λ t. rw t (inr y))
 
 -- ── sweep ──
-pub length-keep : {A : Type 0} (f : A → Bool) (l : List A) → length (keep f l) ≤ length l
-length-keep f [] = omega arith
-length-keep f (x ∷ l) = byCase (f x) (λ e. rw e (omega (arith, length-keep f l))) (λ e. rw e (omega (arith, length-keep f l)))
-
 -- something is not kept
 pub length-keep-less : (f : ℕ → Bool) (x : ℕ) (l : List ℕ) → has x l ≡ true → f x ≡ false → length (keep f l) < length l
 length-keep-less f x [] h e = absurd (true≢false (sym h))

@@ -15,10 +15,10 @@ use Rattle.rules.specs.Tables.{Cached, keysOf, isCached, Batch, numbersO
 use Rattle.rules.specs.Effects.{evicted, upToDate}
 use Rattle.rules.specs.Kept.{isDefined, goodNumber, batchOk}
 use Rattle.rules.proofs.Laws.{byCase, or-one, and-true, both, follow-append, pushed-room}
-use Rattle.rules.proofs.Tests.{Once, all-head, all-tail, all-snoc, all-keep, once-map-keep, once-map-snoc}
+use Rattle.rules.proofs.Tests.{Once, all-head, all-tail, all-snoc, all-keep, length-keep, once-map-keep, once-map-snoc}
 use Rattle.rules.proofs.Accepts.{accepts-split, accepts-join, run-set}
 use Rattle.rules.proofs.KeptParts.{CacheKept, NoRows, TailFree, RowShown, BufferKept}
-use Rattle.rules.proofs.Buffer.{nums-append, pending-append, pending-free, has-last, noRows-snoc, once-snoc, pending-unbuffer, tail-unbuffer, nums-unbuffer, length-unbuffer, has-keep-false, once-keep, length-keep, pending-rows, tailFree-keep, tail-last}
+use Rattle.rules.proofs.Buffer.{nums-append, pending-append, pending-free, has-last, noRows-snoc, once-snoc, pending-unbuffer, tail-unbuffer, nums-unbuffer, length-unbuffer, has-keep-false, once-keep, pending-rows, tailFree-keep, tail-last}
 use Rattle.rules.proofs.Answered.{evicted-room}
 use Rattle.rules.proofs.Words.{cache-commit, cache-keep, cache-snoc}
 use Rattle.rules.proofs.KeptSlots.{number-less, number-later}

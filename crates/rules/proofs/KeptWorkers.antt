@@ -20,10 +20,10 @@ use Rattle.rules.specs.Conditions.{noRoom}
 use Rattle.rules.specs.Effects.{room, taken, carried, applied, ended, orphaned, deleted, cut, removed, swept}
 use Rattle.rules.specs.Kept.{goodNumber, inTime, isFresh, ownerOk, queueOk}
 use Rattle.rules.proofs.Laws.{byCase, and-true, both, pushed-room}
-use Rattle.rules.proofs.Tests.{all-imp, all-snoc, all-keep}
+use Rattle.rules.proofs.Tests.{all-imp, all-snoc, all-keep, length-keep}
 use Rattle.rules.proofs.Accepts.{run-ok}
 use Rattle.rules.proofs.KeptParts.{CacheKept, SlotsKept, HandOk, Kept}
-use Rattle.rules.proofs.Buffer.{isOldest-oldest, is-oldest, has-row, has-snoc-false, once-snoc, hand-rows, pending-unbuffer, nums-unbuffer, has-keep-false, once-keep, hand-unbuffer, length-keep, pending-rows, hand-keep, in-any, buffered-nums, row-room, carried-row}
+use Rattle.rules.proofs.Buffer.{isOldest-oldest, is-oldest, has-row, has-snoc-false, once-snoc, hand-rows, pending-unbuffer, nums-unbuffer, has-keep-false, once-keep, hand-unbuffer, pending-rows, hand-keep, in-any, buffered-nums, row-room, carried-row}
 use Rattle.rules.proofs.Sweeping.{rowsLeft, row-stays}
 use Rattle.rules.proofs.KeptTables.{buffer-carry, buffer-delete, buffer-sweep}
 

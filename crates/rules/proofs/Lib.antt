@@ -47,4 +47,6 @@ pub mod CacheOrder
 -- a sweep takes what it can, oldest rows first
 pub mod AppliedOnce
 pub mod RowOrder
+-- a recalled lot leaves the tally whole
+pub mod Pulls
 pub mod Theorem

@@ -4,7 +4,7 @@ use native.Mathlib.Omega.{arith}
 use mathlib.Core.Path.{_∙_, _≡_, ap, ap₂, refl, sym}
 use mathlib.Core.Bool.{Bool, _&&_, false, not, true, true≢false}
 use mathlib.Core.List.{List, [], _++_, _∷_, map}
-use lib.ListN.{take}
+use lib.ListN.{length, take}
 use lib.Dec.{eqb, leb, ltb}
 use borrow.Author.Tests.{eqb-false, eqb-true, le-leb, lt-ltb, not-true}
 use Rattle.rules.specs.Lists.{keep, any, all, pairwise, sameList, dropAt, has, span, upto, isOnce}
@@ -63,6 +63,10 @@ module _ {A : Type 0} where
   all-dropAt f n [] e = refl
   all-dropAt f zero (a ∷ l) e = all-tail f a l e
   all-dropAt f (suc n) (a ∷ l) e = both (f a) (all f (dropAt n l)) (all-head f a l e) (all-dropAt f n l (all-tail f a l e))
+
+  pub length-keep : (f : A → Bool) (l : List A) → length (keep f l) ≤ length l
+  length-keep f [] = omega arith
+  length-keep f (a ∷ l) = byCase (f a) (λ t. rw t (omega (arith, length-keep f l))) (λ t. rw t (omega (arith, length-keep f l)))
 
   pub keep-all : (f : A → Bool) (l : List A) → ((a : A) → f a ≡ true) → l ≡ keep f l
   keep-all f [] h = refl

@@ -6,6 +6,7 @@ use Rattle.rules.specs.Bounds.{bounds}
 use Rattle.rules.specs.Histories.{histories}
 use Rattle.rules.specs.CacheRuns.{cache-runs}
 use Rattle.rules.specs.RowRuns.{row-runs}
+use Rattle.rules.specs.PullRuns.{pull-runs}
 use Rattle.rules.specs.Theorem.{Theorem}
 use Rattle.rules.proofs.Steps.{refusals-leave, three-ends, four-ends}
 use Rattle.rules.proofs.Sessionless.{spares-sessions}
@@ -18,6 +19,7 @@ use Rattle.rules.proofs.Numbers.{numbers-rise}
 use Rattle.rules.proofs.Answers.{answers-count}
 use Rattle.rules.proofs.CacheOrder.{in-read-order, oldest-gives-way, commit-caches-none, clock-leaves-order}
 use Rattle.rules.proofs.RowOrder.{rows-in-order, comes-when-applied, store-stays-else, applied-once, in-applied-order, oldest-rows-go}
+use Rattle.rules.proofs.Pulls.{one-without, pulls-all, load-pulls, change-pulls, reads-lack, store-lacks}
 
 pub theorem : Theorem
 theorem =
@@ -48,6 +50,12 @@ theorem =
       appliedOnce = applied-once;
       inAppliedOrder = in-applied-order;
       oldestRowsGo = oldest-rows-go;
+      oneWithout = one-without;
+      pullsAll = pulls-all;
+      loadPulls = load-pulls;
+      changePulls = change-pulls;
+      readsLack = reads-lack;
+      storeLacks = store-lacks;
       demand3 = demand3;
       edges = edges;
       paperRun = paper-run;
@@ -57,4 +65,5 @@ theorem =
       histories = histories;
       cacheRuns = cache-runs;
       rowRuns = row-runs;
+      pullRuns = pull-runs;
     }

@@ -8,7 +8,7 @@ use Rattle.rules.specs.Lists.{pushed, span}
 use Rattle.rules.specs.Limits.{lowest, highest}
 use Rattle.rules.specs.Refusals.{seventhMember, sumTooLarge, _⇒_}
 use Rattle.rules.specs.Values.{fits32, inRange, absent, number, list, fieldOk}
-use Rattle.rules.specs.Changes.{set, unset, inc, add, push, becomes, fails, member, pullFirst, putLast, change, outcomeRefusal, fieldOf, meets, updated, fieldAfter, sets, updateOf}
+use Rattle.rules.specs.Changes.{set, unset, inc, add, push, becomes, fails, member, putLast, change, outcomeRefusal, fieldOf, meets, updated, fieldAfter, sets, updateOf}
 use Rattle.rules.specs.Tables.{documents, Plant, setup, withCache, withSlots, withBuffer, withRows, withClock, withNext}
 use Rattle.rules.specs.Reading.{showsIt}
 use Rattle.rules.specs.Calls.{arrives, unreached, Map, Begin, Change, Apply}
@@ -130,7 +130,7 @@ pub record Bounds : Type 0 where
 
 -- by computing
 pub bounds : Bounds
-unfolding setup step conditions accepted mapped loaded begun afterRead cacheAfter onlyAt changed committed abandoned grant lapse advanced taken applied carried deleted cut meets updated change member pullFirst putLast fits32 outcomeRefusal fieldOf fieldAfter pushed _⇒_ documents withLast withExclusive lapses loses isLost inDocuments stays showsIt sets kept
+unfolding setup step conditions accepted mapped loaded begun afterRead cacheAfter onlyAt changed committed abandoned grant lapse advanced taken applied carried deleted cut meets updated change member putLast fits32 outcomeRefusal fieldOf fieldAfter pushed _⇒_ documents withLast withExclusive lapses loses isLost inDocuments stays showsIt sets kept
 bounds =
     record {
       changes = refl;

@@ -1,12 +1,12 @@
 -- The six changes (paper 01, from 000's Table 2), and what a list of changes makes of a stock.
 use Prim.Native.Nat.{ℕ}
-use mathlib.Core.Bool.{Bool, _&&_, _||_, cond, false, true}
+use mathlib.Core.Bool.{Bool, _&&_, _||_, cond, false, not, true}
 use mathlib.Core.Option.{Option, none, some}
 use mathlib.Core.List.{List, [], _++_, _∷_}
 use lib.ListN.{length}
 use lib.Dec.{leb}
 use lib.IntN.{_+ℤ_, pos, ℤ}
-use Rattle.rules.specs.Lists.{any, isCase, caseOf, sameCase}
+use Rattle.rules.specs.Lists.{keep, any, isCase, caseOf, sameCase}
 use Rattle.rules.specs.Limits.{memberLimit}
 use Rattle.rules.specs.Refusals.{Refusal, wrongKind, seventhMember, sumTooLarge}
 use Rattle.rules.specs.Values.{fits32, eqZ, natOf, isNatural, Place, samePlace, inRange, Field, absent, number, list, Stock}
@@ -42,9 +42,9 @@ unfoldable pub member : ℤ → List ℤ → Bool
 member v [] = false
 member v (w ∷ ws) = cond (eqZ w v) true (member v ws)
 
-unfoldable pub pullFirst : ℤ → List ℤ → List ℤ
-pullFirst v [] = []
-pullFirst v (w ∷ ws) = cond (eqZ w v) ws (w ∷ pullFirst v ws)
+-- the members that do not equal v
+abbrev pub pullAll : ℤ → List ℤ → List ℤ
+pullAll v = keep (λ w. not (eqZ w v))
 
 unfoldable pub putLast : ℤ → List ℤ → Outcome
 putLast v l = cond (leb memberLimit (length l)) (fails seventhMember) (becomes (list (l ++ (v ∷ []))))
@@ -63,7 +63,7 @@ change push v (number a) = fails wrongKind
 change push v (list l) = putLast v l
 change pull v absent = becomes absent
 change pull v (number a) = fails wrongKind
-change pull v (list l) = becomes (list (pullFirst v l))
+change pull v (list l) = becomes (list (pullAll v l))
 
 unfoldable pub outcomeRefusal : Outcome → Option Refusal
 outcomeRefusal (becomes f) = none

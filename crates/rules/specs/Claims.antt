@@ -10,7 +10,7 @@ use lib.IntN.{pos, ℤ}
 use Rattle.rules.specs.Lists.{any, all, pairwise, bit, span}
 use Rattle.rules.specs.Limits.{wordsPerField, firstSession, lastSession}
 use Rattle.rules.specs.Refusals.{Refusal, wasDoomed, exclusiveElsewhere}
-use Rattle.rules.specs.Values.{natOf, Place, inRange, fieldOk, showAll}
+use Rattle.rules.specs.Values.{natOf, Place, inRange, fieldOk, Stock, showAll}
 use Rattle.rules.specs.Changes.{kindOf, Update, follow, touches, isSet, placeOf, updateOf}
 use Rattle.rules.specs.Tables.{hasSlot, session, freed, Batch, empty, holds, Queue, leased, Plant, setup, withStore, withKeys, withCache, withSlots, withBuffer, withRows, withHand, withQueue, withClock, withNear, withNext}
 use Rattle.rules.specs.Reading.{seen, knownAway, seenAway}
@@ -136,9 +136,12 @@ SeenFits = (p : Plant) (s : ℕ) (q : Place) → kept p ≡ true → inRange q �
 
 -- an answered read, cached or not, shows the starting stock with all committed sessions in commit order and then its own changes;
 -- the words past these are untouched
+abbrev pub shownTo : History → ℤ → Stock
+shownTo h s = follow (wholeHistory h) (changesOf (h .page (natOf s)))
+
 abbrev pub ShownBy : History → ℤ → ℤ → List ℤ → List ℤ
 ShownBy h s k lent =
-    showAll (map (follow (wholeHistory h) (changesOf (h .page (natOf s)))) (h .keys (natOf k)))
+    showAll (map (shownTo h s) (h .keys (natOf k)))
     ++ drop (wordsPerField * length (h .keys (natOf k))) lent
 
 abbrev pub ReadsShow : Type 0

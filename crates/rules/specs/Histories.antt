@@ -9,7 +9,7 @@ use lib.IntN.{negsuc, pos, ℤ}
 use Rattle.rules.specs.Lists.{pushed, upto}
 use Rattle.rules.specs.Refusals.{_⇒_}
 use Rattle.rules.specs.Values.{fits32, absent, number, Stock}
-use Rattle.rules.specs.Changes.{set, inc, push, Update, follow, member, pullFirst, putLast, change, outcomeRefusal, fieldOf, meets, updated, fieldAfter, sets}
+use Rattle.rules.specs.Changes.{set, inc, push, Update, follow, member, putLast, change, outcomeRefusal, fieldOf, meets, updated, fieldAfter, sets}
 use Rattle.rules.specs.Tables.{documents, numbersOf, Plant, setup, withBuffer, withClock, withStore}
 use Rattle.rules.specs.Reading.{showsIt}
 use Rattle.rules.specs.Calls.{arrives, Load, Begin, Change, Abandon, Advance, Take, Apply, Delete, Cut, Sweep, Store}
@@ -233,7 +233,7 @@ heads-differ : {l m : List ℕ} → 2 ∷ l ≡ 1 ∷ m → ⊥
 heads-differ e = let z : _≡_ {A = ℕ} 2 1 = cc in omega arith
 
 pub histories : Histories
-unfolding setup step conditions accepted mapped loaded begun afterRead cacheAfter onlyAt changed committed abandoned grant lapse advanced taken applied carried deleted cut swept meets updated change member pullFirst putLast fits32 outcomeRefusal fieldOf fieldAfter pushed _⇒_ documents withLast withExclusive lapses loses isLost inDocuments stays showsIt sets initial emptyHistory note
+unfolding setup step conditions accepted mapped loaded begun afterRead cacheAfter onlyAt changed committed abandoned grant lapse advanced taken applied carried deleted cut swept meets updated change member putLast fits32 outcomeRefusal fieldOf fieldAfter pushed _⇒_ documents withLast withExclusive lapses loses isLost inDocuments stays showsIt sets initial emptyHistory note
 histories =
     record {
       played = (refl, refl);

@@ -8,7 +8,7 @@ use Rattle.rules.specs.Lists.{pushed}
 use Rattle.rules.specs.Limits.{lastSession, highest}
 use Rattle.rules.specs.Refusals.{_⇒_}
 use Rattle.rules.specs.Values.{fits32}
-use Rattle.rules.specs.Changes.{set, inc, push, member, pullFirst, putLast, change, outcomeRefusal, fieldOf, meets, updated, fieldAfter, sets}
+use Rattle.rules.specs.Changes.{set, inc, push, member, putLast, change, outcomeRefusal, fieldOf, meets, updated, fieldAfter, sets}
 use Rattle.rules.specs.Tables.{documents, setup, withClock, withNext}
 use Rattle.rules.specs.Reading.{showsIt}
 use Rattle.rules.specs.Calls.{arrives, lost, unreached, Call, Map, Begin, Abandon, Take, Apply, Delete, Report}
@@ -187,7 +187,7 @@ pub record Orders : Type 0 where
 
 -- by computing
 pub orders : Orders
-unfolding setup step conditions accepted mapped loaded begun afterRead cacheAfter onlyAt changed committed abandoned grant lapse advanced taken applied carried deleted cut meets updated change member pullFirst putLast fits32 outcomeRefusal fieldOf fieldAfter pushed _⇒_ documents withLast withExclusive lapses loses isLost inDocuments stays showsIt sets
+unfolding setup step conditions accepted mapped loaded begun afterRead cacheAfter onlyAt changed committed abandoned grant lapse advanced taken applied carried deleted cut meets updated change member putLast fits32 outcomeRefusal fieldOf fieldAfter pushed _⇒_ documents withLast withExclusive lapses loses isLost inDocuments stays showsIt sets
 orders =
     record {
       ofLoad = refl;

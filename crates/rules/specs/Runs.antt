@@ -9,7 +9,7 @@ use Rattle.rules.specs.Lists.{pushed, span}
 use Rattle.rules.specs.Limits.{documentCount, fieldCount, keyCount, placeLimit, memberLimit, cacheLimit, slotLimit, changeLimit, bufferLimit, rowLimit, sweepLimit, workerCount, wordsPerField, leaseTicks, sessionTicks, advanceLimit, lastTick, firstSession, lastSession, highest}
 use Rattle.rules.specs.Refusals.{refusalNumber, outOfRange, noSlot, wasDoomed, exclusiveElsewhere, changesFull, wrongKind, seventhMember, sumTooLarge, keyUndefined, slotsFull, numbersSpent, sessionBegun, keyDefined, badPlaces, bufferFull, queueLeased, wrongHand, nothingBuffered, rowsFull, storeAway, clockEnd, fewWords, badLine, _⇒_}
 use Rattle.rules.specs.Values.{fits32, absent, number, list, show}
-use Rattle.rules.specs.Changes.{set, unset, inc, add, push, pull, becomes, member, pullFirst, putLast, change, outcomeRefusal, fieldOf, meets, updated, fieldAfter, sets}
+use Rattle.rules.specs.Changes.{set, unset, inc, add, push, pull, becomes, member, putLast, change, outcomeRefusal, fieldOf, meets, updated, fieldAfter, sets}
 use Rattle.rules.specs.Tables.{documents, leased, setup, removable, withRows, withClock, withNext}
 use Rattle.rules.specs.Reading.{showsIt}
 use Rattle.rules.specs.Calls.{arrives, lost, unreached, Load, Map, Begin, Read, Change, Commit, Abandon, Advance, Take, Apply, Delete, Cut, Sweep, Store, Report, callNumber, fine}
@@ -406,8 +406,8 @@ pub record Runs : Type 0 where
       ∷ pos 2 ∷ pos 3 ∷ pos 5 ∷ pos 6 ∷ pos 6 ∷ pos 0 ∷ pos 0 ∷ pos 0
       ∷ pos 0 ∷ pos 0 ∷ pos 0 ∷ pos 0 ∷ pos 0 ∷ pos 0 ∷ pos 0 ∷ pos 0
       ∷ []
-  -- pull takes out the first equal member wherever it stands; a list without one stays
-  pub pulls : (change pull (pos 7) (list (pos 4 ∷ pos 7 ∷ pos 5 ∷ pos 7 ∷ [])) ≡ becomes (list (pos 4 ∷ pos 5 ∷ pos 7 ∷ [])))
+  -- pull takes out every equal member wherever it stands; a list without one stays
+  pub pulls : (change pull (pos 7) (list (pos 4 ∷ pos 7 ∷ pos 5 ∷ pos 7 ∷ [])) ≡ becomes (list (pos 4 ∷ pos 5 ∷ [])))
       × (change pull (pos 9) (list (pos 4 ∷ pos 7 ∷ [])) ≡ becomes (list (pos 4 ∷ pos 7 ∷ [])))
   -- 14: an unused pair of field 0, a place twice apart, and twice after another
   pub badPairs : Plays setup
@@ -837,7 +837,7 @@ pub record Runs : Type 0 where
 
 -- by computing
 pub runs : Runs
-unfolding setup step conditions accepted mapped loaded begun afterRead cacheAfter onlyAt changed committed abandoned grant lapse advanced taken applied carried deleted cut swept meets updated change member pullFirst putLast fits32 outcomeRefusal fieldOf fieldAfter pushed _⇒_ documents withLast withExclusive lapses loses isLost inDocuments stays showsIt sets kept
+unfolding setup step conditions accepted mapped loaded begun afterRead cacheAfter onlyAt changed committed abandoned grant lapse advanced taken applied carried deleted cut swept meets updated change member putLast fits32 outcomeRefusal fieldOf fieldAfter pushed _⇒_ documents withLast withExclusive lapses loses isLost inDocuments stays showsIt sets kept
 runs =
     record {
       range = refl;

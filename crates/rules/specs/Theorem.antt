@@ -3,6 +3,7 @@ use Rattle.rules.specs.Refusals.{wasDoomed, exclusiveElsewhere}
 use Rattle.rules.specs.Claims.{RefusalsLeave, EndsSession, SparesSessions, WritesOnly, FillsOnly, SetupKept, StepKeeps, KnownAway, StoreAway, SeenFits, ReadsShow, CommitLeavesStore, AnswersCount, NumbersRise, LeaseUnseen}
 use Rattle.rules.specs.CacheOrder.{InReadOrder, OldestGivesWay, CommitCachesNone, ClockLeavesOrder}
 use Rattle.rules.specs.RowOrder.{RowsInOrder, ComesWhenApplied, StoreStaysElse, AppliedOnce, InAppliedOrder, OldestRowsGo}
+use Rattle.rules.specs.Pulls.{OneWithout, PullsAll, LoadPulls, ChangePulls, ReadsLack, StoreLacks}
 use Rattle.rules.specs.Demand3.{Demand3}
 use Rattle.rules.specs.Edges.{Edges, PaperRun}
 use Rattle.rules.specs.Runs.{Runs}
@@ -11,6 +12,7 @@ use Rattle.rules.specs.Bounds.{Bounds}
 use Rattle.rules.specs.Histories.{Histories}
 use Rattle.rules.specs.CacheRuns.{CacheRuns}
 use Rattle.rules.specs.RowRuns.{RowRuns}
+use Rattle.rules.specs.PullRuns.{PullRuns}
 
 pub record Theorem : Type 0 where
   -- demand 1
@@ -44,6 +46,13 @@ pub record Theorem : Type 0 where
   pub appliedOnce : AppliedOnce
   pub inAppliedOrder : InAppliedOrder
   pub oldestRowsGo : OldestRowsGo
+  -- a recalled lot leaves the tally whole
+  pub oneWithout : OneWithout
+  pub pullsAll : PullsAll
+  pub loadPulls : LoadPulls
+  pub changePulls : ChangePulls
+  pub readsLack : ReadsLack
+  pub storeLacks : StoreLacks
   -- demand 3
   pub demand3 : Demand3
   -- worked examples
@@ -55,3 +64,4 @@ pub record Theorem : Type 0 where
   pub histories : Histories
   pub cacheRuns : CacheRuns
   pub rowRuns : RowRuns
+  pub pullRuns : PullRuns

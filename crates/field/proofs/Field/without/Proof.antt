@@ -1,67 +1,58 @@
--- The list without one of its values.
+-- The list of the values that do not equal another.
 use Prim.Native.Nat.{_-_}
-use lib.IntN.{pos}
+use mathlib.Core.Logic.{⊎-elim}
+use mir.Syntax.{w32}
+use mir.Val.{toZ}
 use borrow.Author.Needs.{needs}
-use Rattle.rules.specs.Limits.{memberLimit}
-use Rattle.lists.proofs.Loops.{Removing, remove-next}
-use Rattle.field.proofs.Signed.{held-is}
-use Rattle.field.proofs.ChangeLaws.{without-start, without-view, without-form}
+use Rattle.field.proofs.ChangeLaws.{Pulling, pull-start, pull-in, pull-out, pulled, pulled-form}
 use Rattle.field.proofs.Field.without.Statement.{statement}
 use Rattle.field.proofs.Field.without.Tie as tie
 
 abbrev Inv-loop : tie.InvT-loop
-Inv-loop i n old values₀ j₀ values j = Removing (pos 0) i old memberLimit values j
+Inv-loop v n old kept₀ m₀ i₀ kept m i = Pulling (toZ w32 v) n old m kept i
 
 abbrev μ-loop : tie.MeasureT-loop
-μ-loop i n old values₀ j₀ values j = memberLimit - j
+μ-loop v n old kept₀ m₀ i₀ kept m i = n - i
 
 len-requires : tie.Need-len-requires Inv-loop μ-loop
 len-requires c κs = search needs
 
 loop-holds : tie.Need-loop-holds Inv-loop μ-loop
-loop-holds c = search (without-start, needs)
+loop-holds c = search (pull-start, needs)
 
-add-loop : tie.Need-add-loop Inv-loop μ-loop
-add-loop c = search needs
+mul-x : tie.Need-mul-x Inv-loop μ-loop
+mul-x c = search needs
 
-add-values : tie.Need-add-values Inv-loop μ-loop
-add-values c = search needs
+array-copy-out-x : tie.Need-array-copy-out-x Inv-loop μ-loop
+array-copy-out-x c = search needs
 
-mul-values : tie.Need-mul-values Inv-loop μ-loop
-mul-values c = search needs
+mul-kept : tie.Need-mul-kept Inv-loop μ-loop
+mul-kept c = search needs
 
-array-copy-out-values : tie.Need-array-copy-out-values Inv-loop μ-loop
-array-copy-out-values c = search needs
+array-set-from-kept : tie.Need-array-set-from-kept Inv-loop μ-loop
+array-set-from-kept c = search needs
 
-mul-values-2 : tie.Need-mul-values-2 Inv-loop μ-loop
-mul-values-2 c = search needs
+add-m : tie.Need-add-m Inv-loop μ-loop
+add-m c = search needs
 
-array-set-from-values : tie.Need-array-set-from-values Inv-loop μ-loop
-array-set-from-values c = search needs
-
-add-j : tie.Need-add-j Inv-loop μ-loop
-add-j c = search needs
+add-i : tie.Need-add-i Inv-loop μ-loop
+add-i c = search needs
 
 loop-less : tie.Need-loop-less Inv-loop μ-loop
 loop-less c = search needs
 
 loop-again : tie.Need-loop-again Inv-loop μ-loop
-loop-again c = search (remove-next, held-is, needs)
+loop-again c =
+    let a = c .before .before .before .before .before .before .args in
+    ⊎-elim
+    (λ w. rw (w .1, w .2) (pull-in (a .self) (a .v) (search needs) _ (search needs) (search needs) (c .before .before .before .loop .inv) (search needs) (search needs) (w .0 .taken)))
+    (λ w. rw (w .1, w .2) (pull-out (a .self) (a .v) (search needs) _ (search needs) (search needs) (c .before .before .before .loop .inv) (search needs) (search needs) (w .0 .left))) (c .if1 .came)
 
-mul-values-3 : tie.Need-mul-values-3 Inv-loop μ-loop
-mul-values-3 c = search needs
-
-array-set-of-values : tie.Need-array-set-of-values Inv-loop μ-loop
-array-set-of-values c = search needs
-
-sub-t17 : tie.Need-sub-t17 Inv-loop μ-loop
-sub-t17 c = search needs
-
-cast-t20 : tie.Need-cast-t20 Inv-loop μ-loop
-cast-t20 c = search needs
+cast-count : tie.Need-cast-count Inv-loop μ-loop
+cast-count c = search needs
 
 returns : tie.Need-returns Inv-loop μ-loop
-returns c = search (without-view, without-form, needs)
+returns c = search (pulled, pulled-form, needs)
 
 pub without-spec : {M : Type 1} → statement M
 without-spec =
@@ -71,17 +62,13 @@ without-spec =
     μ-loop
     len-requires
     loop-holds
-    add-loop
-    add-values
-    mul-values
-    array-copy-out-values
-    mul-values-2
-    array-set-from-values
-    add-j
+    mul-x
+    array-copy-out-x
+    mul-kept
+    array-set-from-kept
+    add-m
+    add-i
     loop-less
     loop-again
-    mul-values-3
-    array-set-of-values
-    sub-t17
-    cast-t20
+    cast-count
     returns)
