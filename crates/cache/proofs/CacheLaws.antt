@@ -3,17 +3,17 @@ use Prim.Native.Nat.{ℕ, zero, suc, _+_, _-_, _<_, _≤_, min}
 use native.Mathlib.Omega.{arith}
 use mathlib.Core.Path.{_≡_, refl, sym, _∙_, ap}
 use mathlib.Core.Bool.{Bool, true, false, not}
-use mathlib.Core.List.{[], List, _∷_, _++_, map, append-assoc}
-use lib.ListN.{length, getD, set, take, drop, replicate, length-append, length-drop, take-append-drop}
-use lib.Seq.{length-take-le, take-set-lt, drop-set-lt, getD-take, take-at, drop-at}
+use mathlib.Core.List.{[], List, _∷_, _++_, map}
+use lib.ListN.{length, getD, set, take, drop, replicate, length-append, length-drop, length-take}
+use lib.Seq.{length-take-le, getD-drop, drop-cons, set-at, take-at, drop-at}
 use lib.Dec.{eqb}
-use Rattle.rules.specs.Lists.{any, all, keep, dropAt}
+use Rattle.rules.specs.Lists.{any, all, keep}
 use Rattle.rules.specs.Values as S
 use Rattle.rules.specs.Changes as C
 use Rattle.rules.specs.Reading as D
 use Rattle.rules.specs.Effects.{inDocuments, stays}
 use Rattle.rules.proofs.Laws.{both}
-use Rattle.rules.proofs.Tests.{all-dropAt, keep-all}
+use Rattle.rules.proofs.Tests.{all-drop, keep-all}
 use Rattle.docset.specs.Sets.{docs}
 use Rattle.docset.proofs.SetLaws.{docs-none}
 use Rattle.keys.specs.View.{viewPlace, viewKey, viewKeys}
@@ -21,7 +21,7 @@ use Rattle.keys.specs.declared.Place.{Place}
 use Rattle.keys.specs.declared.Key.{Key}
 use Rattle.keys.specs.declared.Keys.{Keys}
 use Rattle.lists.specs.Table.{counted}
-use Rattle.lists.proofs.Loops.{Removing, remove-start, remove-end, length-dropAt}
+use Rattle.lists.proofs.Loops.{filled, fill-step}
 use Rattle.lists.proofs.Views.{counted-length, take-map, Remaking, remake-start}
 use Rattle.lists.proofs.Indexed.{any-false}
 use Rattle.lists.proofs.Forms.{form-parts, parts-form, form-empty, used-at}
@@ -33,7 +33,7 @@ use Rattle.cache.proofs.cached.CachedLaws.{blank-cached}
 use Rattle.cache.specs.View.{viewCache}
 use Rattle.cache.specs.Form.{cacheForm}
 use Rattle.cache.specs.declared.Cache.{Cache}
-use Rattle.lists.proofs.Ends.{remake-here, remake-done, remove-here}
+use Rattle.lists.proofs.Ends.{filled-later, remake-here, remake-done}
 
 -- ── the table ──
 pub cache-empty : (c : Cached) → viewCached c ≡ noCached → cachedForm c ≡ true → cacheForm (record { count = 0; entries = replicate 16 c }) ≡ true
@@ -50,38 +50,44 @@ unfolding viewCache
 length-is t n l e = e ∙ counted-length viewCached (t .count) (t .entries) 16 l
 
 -- ── all but the first ──
-map-dropAt : {A B : Type 0} (f : A → B) (i : ℕ) (xs : List A) → map f (dropAt i xs) ≡ dropAt i (map f xs)
-map-dropAt f i [] = refl
-map-dropAt f zero (x ∷ xs) = refl
-map-dropAt f (suc i) (x ∷ xs) = ap (λ l. f x ∷ l) (map-dropAt f i xs)
+map-rest : {A B : Type 0} (f : A → B) (xs : List A) → map f (drop 1 xs) ≡ drop 1 (map f xs)
+map-rest f [] = refl
+map-rest f (x ∷ xs) = refl
+
+take-rest : {A : Type 0} (j : ℕ) (xs : List A) → take j (drop 1 xs) ≡ drop 1 (take (suc j) xs)
+take-rest zero [] = refl
+take-rest (suc j) [] = refl
+take-rest j (x ∷ xs) = refl
 
 -- the first n of k entries are being moved down by one, those after them stay
-pub record Shifting {A : Type 0} (d : A) (xs : List A) (k n : ℕ) (vs : List A) (j : ℕ) : Type 0 where
+pub record Shifting {A : Type 0} (xs : List A) (k n : ℕ) (vs : List A) (j : ℕ) : Type 0 where
   pub long : length xs ≡ k
   pub few : n ≤ k
-  pub part : Removing d 0 (take n xs) n (take n vs) j
-  pub rest : drop n vs ≡ drop n xs
+  pub at : j < n
+  pub rest : vs ≡ filled (drop 1 xs) xs j
 
-module _ {A : Type 0} {d : A} {xs : List A} {k n : ℕ} {vs : List A} {j : ℕ} (inv : Shifting d xs k n vs j) where
-  pub shift-next : (e : A) → j + 1 < n → Shifting d xs k n (set vs j (getD vs (j + 1) e)) (j + 1)
+module _ {A : Type 0} {xs : List A} {k n : ℕ} {vs : List A} {j : ℕ} (inv : Shifting xs k n vs j) where
+  within : j + 1 ≤ length xs
+  within = omega (arith, inv .long, inv .few, inv .at)
+
+  pub shift-next : (e : A) → j + 1 < n → Shifting xs k n (set vs j (getD vs (j + 1) e)) (j + 1)
   shift-next e h =
-      let a = getD vs (j + 1) e in
-      let m : j < n = omega arith in
-      record {
-        long = inv .long;
-        few = inv .few;
-        part = rw (take-set-lt n vs j a m) (rw (getD-take n vs (j + 1) e h) at (remove-here (inv .part) e h));
-        rest = drop-set-lt n vs j a m ∙ inv .rest;
-      }
+      let m : j + 1 < length xs = omega (arith, inv .long, inv .few) in
+      let l : j < length (drop 1 xs) = rw (length-drop 1 xs) (omega arith) in
+      let one : 1 + j ≡ j + 1 = omega arith in
+      let next : getD vs (j + 1) e ≡ getD (drop 1 xs) j e =
+      ap (λ v. getD v (j + 1) e) (inv .rest) ∙ filled-later (drop 1 xs) xs j (j + 1) e (omega arith) (omega arith) ∙ sym (rw one at (getD-drop 1 xs j e)) in
+      record { long = inv .long; few = inv .few; at = h; rest = rw (next, inv .rest) (fill-step (drop 1 xs) xs j e l (omega arith)) }
 
-  pub shifted : n ≤ j + 1 → set vs j d ≡ dropAt 0 (take n xs) ++ (d ∷ drop n xs)
-  shifted h =
-      let m : j < n = inv .part .at in
-      sym (take-append-drop n (set vs j d))
-      ∙ rw (take-set-lt n vs j d m, remove-end (inv .part) h, drop-set-lt n vs j d m, inv .rest) (append-assoc (dropAt 0 (take n xs)) (d ∷ []) (drop n xs))
+  pub shifted : (d : A) → n ≤ j + 1 → set vs j d ≡ drop 1 (take n xs) ++ (d ∷ drop n xs)
+  shifted d h =
+      let e : n ≡ suc j = omega (arith, inv .at) in
+      let l : j ≤ length (drop 1 xs) = rw (length-drop 1 xs) (omega (arith, within)) in
+      rw (inv .rest, drop-cons xs j d (omega (arith, within)), e, ← take-rest j xs)
+      (set-at (take j (drop 1 xs)) (getD xs j d) (drop (suc j) xs) d j (length-take-le j (drop 1 xs) l))
 
-  pub left : n ≤ j + 1 → length (dropAt 0 (take n xs)) ≡ n - 1
-  left h = let l = inv .part .long in let m = inv .part .at in omega (arith, length-dropAt 0 (take n xs) (omega arith))
+  pub left : length (drop 1 (take n xs)) ≡ n - 1
+  left = simp (length-drop, length-take) (omega (arith, inv .long, inv .few))
 
 -- a count past the table's end shows no more than the number of entries shown
 take-own : {A : Type 0} (n : ℕ) (xs : List A) → take (length (take n xs)) xs ≡ take n xs
@@ -89,33 +95,33 @@ take-own zero xs = refl
 take-own (suc n) [] = refl
 take-own (suc n) (x ∷ xs) = ap (λ l. x ∷ l) (take-own n xs)
 
-none-first : {A : Type 0} (l : List A) → length l ≡ 0 → l ≡ dropAt 0 l
+none-first : {A : Type 0} (l : List A) → length l ≡ 0 → l ≡ drop 1 l
 none-first [] e = refl
 none-first (x ∷ l) e = absurd (omega arith)
 
 module _ (t : Cache) (n : ℕ) (a : n ≡ length (viewCache t)) where
-  pub first-none : n ≡ 0 → viewCache t ≡ dropAt 0 (viewCache t)
+  pub first-none : n ≡ 0 → viewCache t ≡ drop 1 (viewCache t)
   first-none h = none-first (viewCache t) (sym a ∙ h)
 
-  pub first-start : (d : Cached) → length (t .entries) ≡ 16 → (n ≡ 0 → ⊥) → Shifting d (t .entries) 16 n (t .entries) 0
+  pub first-start : length (t .entries) ≡ 16 → (n ≡ 0 → ⊥) → Shifting (t .entries) 16 n (t .entries) 0
   unfolding viewCache
-  first-start d l m =
+  first-start l m =
       let q : n ≤ 16 = omega (arith, a, counted-length viewCached (t .count) (t .entries) 16 l) in
-      record { long = l; few = q; part = remove-start (length-take-le n (t .entries) (omega arith)) (omega arith); rest = refl }
+      record { long = l; few = q; at = omega arith; rest = refl }
 
-  module _ (d : Cached) (vs : List Cached) (j : ℕ) (inv : Shifting d (t .entries) 16 n vs j) (h : n ≤ j + 1) where
+  module _ (d : Cached) (vs : List Cached) (j : ℕ) (inv : Shifting (t .entries) 16 n vs j) (h : n ≤ j + 1) where
     shown : counted viewCached n (t .entries) ≡ viewCache t
     unfolding viewCache counted
     shown = rw a (take-own (t .count) (map viewCached (t .entries)))
 
-    pub first-gone : viewCache (record { count = n - 1; entries = set vs j d }) ≡ dropAt 0 (viewCache t)
+    pub first-gone : viewCache (record { count = n - 1; entries = set vs j d }) ≡ drop 1 (viewCache t)
     unfolding viewCache counted
     first-gone =
-        let e : take (n - 1) (set vs j d) ≡ dropAt 0 (take n (t .entries)) = rw (shifted inv h) (take-at (dropAt 0 (take n (t .entries))) (d ∷ drop n (t .entries)) (n - 1) (left inv h)) in
+        let e : take (n - 1) (set vs j d) ≡ drop 1 (take n (t .entries)) = rw (shifted inv d h) (take-at (drop 1 (take n (t .entries))) (d ∷ drop n (t .entries)) (n - 1) (left inv)) in
         take-map viewCached (n - 1) (set vs j d)
         ∙ ap (map viewCached) e
-        ∙ map-dropAt viewCached 0 (take n (t .entries))
-        ∙ ap (dropAt 0) (sym (take-map viewCached n (t .entries)) ∙ shown)
+        ∙ map-rest viewCached (take n (t .entries))
+        ∙ ap (drop 1) (sym (take-map viewCached n (t .entries)) ∙ shown)
 
     pub first-form : viewCached d ≡ noCached → cachedForm d ≡ true → cacheForm t ≡ true → cacheForm (record { count = n - 1; entries = set vs j d }) ≡ true
     unfolding cacheForm viewCache
@@ -124,14 +130,14 @@ module _ (t : Cache) (n : ℕ) (a : n ≡ length (viewCache t)) where
         let q : n ≡ t .count = omega (arith, a, f .within, counted-length viewCached (t .count) (t .entries) 16 (inv .long)) in
         let w = f .within in
         let l = inv .long in
-        let m = inv .part .at in
-        rw (shifted inv h)
-        (parts-form 16 cachedForm isBlankCached (n - 1) (dropAt 0 (take n (t .entries)) ++ (d ∷ drop n (t .entries)))
+        let m = inv .at in
+        rw (shifted inv d h)
+        (parts-form 16 cachedForm isBlankCached (n - 1) (drop 1 (take n (t .entries)) ++ (d ∷ drop n (t .entries)))
         (record {
-          long = simp (length-append, length-drop) (omega (arith, left inv h));
+          long = simp (length-append, length-drop, length-take) (omega arith);
           within = omega arith;
-          inUse = rw (take-at (dropAt 0 (take n (t .entries))) (d ∷ drop n (t .entries)) (n - 1) (left inv h)) (all-dropAt cachedForm 0 (take n (t .entries)) (rw q (f .inUse)));
-          rest = rw (drop-at (dropAt 0 (take n (t .entries))) (d ∷ drop n (t .entries)) (n - 1) (left inv h)) (both (isBlankCached d) (all isBlankCached (drop n (t .entries))) (blank-cached d b b′) (rw q (f .rest)));
+          inUse = rw (take-at (drop 1 (take n (t .entries))) (d ∷ drop n (t .entries)) (n - 1) (left inv)) (all-drop cachedForm 1 (take n (t .entries)) (rw q (f .inUse)));
+          rest = rw (drop-at (drop 1 (take n (t .entries))) (d ∷ drop n (t .entries)) (n - 1) (left inv)) (both (isBlankCached d) (all isBlankCached (drop n (t .entries))) (blank-cached d b b′) (rw q (f .rest)));
         }))
 
 -- ── without the documents of no set ──

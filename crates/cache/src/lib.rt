@@ -4,9 +4,9 @@ pub mod cached;
 ghost use mathlib.Core.Path.{_≡_};
 ghost use mathlib.Core.Bool.{true};
 ghost use mathlib.Core.List.{[], map};
-ghost use lib.ListN.{length};
+ghost use lib.ListN.{drop, length};
 ghost use Rattle.rules.specs.Limits.{cacheLimit};
-ghost use Rattle.rules.specs.Lists.{any, keep, pushed, dropAt};
+ghost use Rattle.rules.specs.Lists.{any, keep, pushed};
 ghost use Rattle.rules.specs.Tables.{isCached};
 ghost use Rattle.rules.specs.Reading.{showsIt, cachedField};
 ghost use Rattle.rules.specs.Effects.{stays};
@@ -149,7 +149,7 @@ impl Cache {
 
     // All but the first: the others move down, and the entry of the last is emptied.
     pub fn without_first(self) -> Self
-        ensures shows { λ r. ⌜ viewCache r ≡ dropAt 0 (viewCache self) ⌝ }
+        ensures shows { λ r. ⌜ viewCache r ≡ drop 1 (viewCache self) ⌝ }
         ensures form { λ r. ⌜ (cacheForm self ≡ true → cacheForm r ≡ true) ⌝ }
     {
         let n = self.len();

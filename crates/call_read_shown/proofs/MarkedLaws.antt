@@ -5,9 +5,9 @@ use mathlib.Core.List.{List, [], _∷_, map}
 use Prim.Native.Nat.{ℕ, _≤_, _<_}
 use lib.Dec.{eqb}
 use borrow.Author.Tests.{le-leb, lt-leb, eqb-true}
-use lib.ListN.{length}
+use lib.ListN.{drop, length}
 use Rattle.rules.specs.Limits.{cacheLimit}
-use Rattle.rules.specs.Lists.{pushed, dropAt}
+use Rattle.rules.specs.Lists.{pushed}
 use Rattle.rules.specs.Values as S
 use Rattle.rules.specs.Changes.{Update, follow}
 use Rattle.rules.specs.Tables as M
@@ -113,7 +113,7 @@ module _ (m : Mark) (c : Cached) (cache : Cache) where
 
 -- ── room for one more ──
 module _ (c : Cache) (m : ℕ) (e : m ≡ length (viewCache c)) where
-  pub gives-way : (r : Cache) → cacheLimit ≤ m → viewCache r ≡ dropAt 0 (viewCache c) → viewCache r ≡ evicted (viewCache c)
+  pub gives-way : (r : Cache) → cacheLimit ≤ m → viewCache r ≡ drop 1 (viewCache c) → viewCache r ≡ evicted (viewCache c)
   gives-way r h q = q ∙ rw (sym e, le-leb cacheLimit m h) refl
 
   pub has-room : m < cacheLimit → viewCache c ≡ evicted (viewCache c)

@@ -3,15 +3,14 @@ use Prim.Native.Nat.{ℕ, _+_, _-_, _≤_, _<_, min}
 use native.Mathlib.Omega.{arith}
 use mathlib.Core.Path.{_≡_, refl, sym, _∙_, ap}
 use mathlib.Core.Bool.{Bool, true, false}
-use mathlib.Core.List.{[], List, _∷_, _++_, map}
+use mathlib.Core.List.{List, map}
 use lib.Dec.{leb}
-use lib.ListN.{length, getD, set, take, drop, length-map, length-append, List·getD-map}
+use lib.ListN.{length, getD, set, take, drop, length-map, List·getD-map}
 use lib.Seq.{getD-append-add, getD-drop, length-take-le}
 use borrow.Author.Tests.{leb-true, leb-false}
-use Rattle.rules.specs.Lists.{dropAt}
 use Rattle.rules.proofs.Laws.{byCase}
 use Rattle.lists.specs.Table.{counted}
-use Rattle.lists.proofs.Loops.{filled, length-dropAt, Removing, remove-next}
+use Rattle.lists.proofs.Loops.{filled}
 use Rattle.lists.proofs.Views.{Seeking, seek-hit, seek-next, seek-end, seek-past, Keeping, keep-end, keep-past, Working, work-end, work-past, Remaking, remake-next, remake-past}
 use Rattle.lists.proofs.Remake.{remake-end}
 
@@ -35,7 +34,7 @@ pub work-done : {A B C : Type 0} {view : A → B} {f : C → B → C} {n k : ℕ
 work-done {n = n} {k} {i = i} inv h = ends n k i (work-end inv) (work-past inv) h
 
 -- ── a loop in place: an entry that is not written yet is still the old one ──
-filled-later : {A : Type 0} (t v : List A) (j m : ℕ) (d : A) → j ≤ length t → j ≤ m → getD (filled t v j) m d ≡ getD v m d
+pub filled-later : {A : Type 0} (t v : List A) (j m : ℕ) (d : A) → j ≤ length t → j ≤ m → getD (filled t v j) m d ≡ getD v m d
 filled-later t v j m d h l =
     let e : j + (m - j) ≡ m = omega arith in
     rw (length-take-le j t h, e) at (getD-append-add (take j t) (drop j v) (m - j) d ∙ getD-drop j v (m - j) d)
@@ -51,10 +50,3 @@ module _ {A B : Type 0} {view : A → B} {g : B → B} {xs : List A} {k : ℕ} {
 
   pub remake-here : (d : A) {r : A} → j < k → view r ≡ g (view (getD vs j d)) → Remaking view g xs k (set vs j r) (j + 1)
   remake-here d h e = remake-next inv d h (e ∙ ap g (remake-old d h))
-
-pub remove-here : {A : Type 0} {d : A} {i : ℕ} {xs : List A} {k : ℕ} {vs : List A} {j : ℕ} → Removing d i xs k vs j → (e : A) → j + 1 < k → Removing d i xs k (set vs j (getD vs (j + 1) e)) (j + 1)
-remove-here {d = d} {i} {xs} {k} {vs} {j} inv e h =
-    let l = inv .long in
-    let p = inv .from in
-    let m : j ≤ length (dropAt i xs ++ (d ∷ [])) = simp length-append (omega (arith, length-dropAt i xs (omega arith))) in
-    remove-next inv e h (ap (λ l. getD l (j + 1) e) (inv .rest) ∙ filled-later (dropAt i xs ++ (d ∷ [])) xs j (j + 1) e m (omega arith))

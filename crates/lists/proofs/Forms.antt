@@ -1,19 +1,18 @@
--- The one form of a table: empty, one more, one fewer, and that a table in form is what it shows.
+-- The one form of a table: empty, one more, and that a table in form is what it shows.
 use Prim.Native.Nat.{ℕ, zero, suc, _+_, _-_, _≤_, _<_}
 use native.Mathlib.Omega.{arith}
 use native.Mathlib.Numerals.{add-one}
 use mathlib.Core.Path.{_≡_, refl, sym, _∙_, ap}
 use mathlib.Core.Bool.{Bool, true, false, _&&_}
-use mathlib.Core.List.{List, [], _∷_, _++_, map}
-use lib.ListN.{length, getD, take, drop, set, replicate, length-drop, length-take, length-set, length-append, length-replicate}
+use mathlib.Core.List.{List, [], _∷_, map}
+use lib.ListN.{length, getD, take, drop, set, replicate, length-drop, length-take, length-set, length-replicate}
 use lib.Seq.{ext-getD, getD-take, getD-drop, take-suc-set}
 use lib.Dec.{eqb, leb}
 use borrow.Author.Tests.{leb-true, leb-false, le-leb, eqb-true, eq-eqb}
-use Rattle.rules.specs.Lists.{all, dropAt}
+use Rattle.rules.specs.Lists.{all}
 use Rattle.rules.proofs.Laws.{and-true, both}
-use Rattle.rules.proofs.Tests.{all-tail, all-snoc, all-dropAt}
+use Rattle.rules.proofs.Tests.{all-tail, all-snoc}
 use Rattle.lists.specs.Table.{counted, tableForm, arrayForm}
-use Rattle.lists.proofs.Loops.{length-dropAt, take-removed, drop-removed}
 use Rattle.lists.proofs.Views.{counted-length, counted-at}
 use Rattle.lists.proofs.Indexed.{all-index, all-set, at-index}
 
@@ -64,22 +63,6 @@ module _ {A : Type 0} (k : ℕ) (used unused : A → Bool) where
         within = h;
         inUse = rw (take-suc-set xs n a m) (all-snoc used (take n xs) a (f .inUse) u);
         rest = drop-set n xs a (f .rest);
-      })
-
-  -- one taken out: those after it move down, and an unused one comes last
-  pub form-remove : (i n : ℕ) (xs : List A) (d : A) → i < n → unused d ≡ true → tableForm k used unused n xs ≡ true → tableForm k used unused (n - 1) (dropAt i xs ++ (d ∷ [])) ≡ true
-  form-remove i n xs d h u e =
-      let f = form-parts n xs e in
-      let w = f .within in
-      let l = f .long in
-      let m : n ≤ length xs = omega arith in
-      let o = length-dropAt i xs (omega arith) in
-      parts-form (n - 1) (dropAt i xs ++ (d ∷ []))
-      (record {
-        long = simp length-append (omega arith);
-        within = omega arith;
-        inUse = rw (take-removed i n xs d h m) (all-dropAt used i (take n xs) (f .inUse));
-        rest = rw (drop-removed i n xs d h m) (all-snoc unused (drop n xs) d (f .rest) u);
       })
 
   -- an entry in use, and one that is not

@@ -2,14 +2,13 @@
 -- Assumes nothing.
 use mathlib.Core.Path.{_≡_, refl, _∙_, ap, sym}
 use mathlib.Core.Bool.{Bool, true, false}
-use mathlib.Core.List.{List, [], _∷_, _++_, append-nil, append-assoc, map}
-use Prim.Native.Nat.{ℕ, zero, suc, _+_, _-_, _≤_, _<_, min}
+use mathlib.Core.List.{List, [], _∷_, _++_, append-nil, map}
+use Prim.Native.Nat.{ℕ, zero, suc, _+_, _≤_, _<_, min}
 use native.Mathlib.Numerals.{add-one}
 use native.Mathlib.Nat.{not-suc-le-zero, le-of-suc-le-suc}
 use native.Mathlib.Omega.{arith}
-use lib.ListN.{take-append-drop, length, getD, take, drop, set, drop-of-length-le, length-take, length-drop, length-append, length-map, List·getD-append}
-use lib.Seq.{drop-cons, getD-take, set-at, append-snoc, take-suc, length-take-le, take-all, take-at, take-take, drop-at, getD-at}
-use Rattle.rules.specs.Lists.{dropAt}
+use lib.ListN.{length, getD, take, drop, set, drop-of-length-le, length-take, length-drop, length-append, length-map}
+use lib.Seq.{drop-cons, getD-take, set-at, append-snoc, take-suc, length-take-le, take-all, take-take}
 use Rattle.lists.specs.Find.{firstAt}
 
 module _ {A : Type 0} (d : A) where
@@ -60,88 +59,6 @@ pub getD-within : {A : Type 0} (xs : List A) (i : ℕ) (d e : A) → i < length 
 getD-within [] i d e h = absurd (not-suc-le-zero h)
 getD-within (x ∷ xs) zero d e h = refl
 getD-within (x ∷ xs) (suc i) d e h = getD-within xs i d e (le-of-suc-le-suc h)
-
--- ---- a loop that takes the entry at i out of an array of k: those after it move down, and d comes last
-pub record Removing {A : Type 0} (d : A) (i : ℕ) (xs : List A) (k : ℕ) (vs : List A) (j : ℕ) : Type 0 where
-  pub long : length xs ≡ k
-  pub from : i ≤ j
-  pub at : j < k
-  pub rest : vs ≡ filled (dropAt i xs ++ (d ∷ [])) xs j
-
-pub length-dropAt : {A : Type 0} (i : ℕ) (xs : List A) → i < length xs → length (dropAt i xs) + 1 ≡ length xs
-length-dropAt i [] h = absurd (not-suc-le-zero h)
-length-dropAt zero (x ∷ xs) h = omega arith
-length-dropAt (suc i) (x ∷ xs) h = omega (arith, length-dropAt i xs (le-of-suc-le-suc h))
-
--- an entry of the first of two lists is taken out of the first
-pub dropAt-append : {A : Type 0} (i : ℕ) (xs ys : List A) → i < length xs → dropAt i (xs ++ ys) ≡ dropAt i xs ++ ys
-dropAt-append i [] ys h = absurd (not-suc-le-zero h)
-dropAt-append zero (x ∷ xs) ys h = refl
-dropAt-append (suc i) (x ∷ xs) ys h = ap (λ l. x ∷ l) (dropAt-append i xs ys (le-of-suc-le-suc h))
-
--- of a table of which n entries count, one of those is taken out
-module _ {A : Type 0} (i n : ℕ) (xs : List A) (d : A) (h : i < n) (m : n ≤ length xs) where
-  parted : dropAt i xs ++ (d ∷ []) ≡ dropAt i (take n xs) ++ (drop n xs ++ (d ∷ []))
-  parted =
-      let k : i < length (take n xs) = simp length-take (omega arith) in
-      ap (λ (l : List A). dropAt i l ++ (d ∷ [])) (sym (take-append-drop n xs))
-      ∙ rw (dropAt-append i (take n xs) (drop n xs) k) (append-assoc (dropAt i (take n xs)) (drop n xs) (d ∷ []))
-
-  fewer : length (dropAt i (take n xs)) ≡ n - 1
-  fewer =
-      let k : length (take n xs) ≡ n = length-take-le n xs m in
-      omega (arith, length-dropAt i (take n xs) (omega arith))
-
-  pub take-removed : take (n - 1) (dropAt i xs ++ (d ∷ [])) ≡ dropAt i (take n xs)
-  take-removed = rw parted (take-at (dropAt i (take n xs)) (drop n xs ++ (d ∷ [])) (n - 1) fewer)
-
-  pub drop-removed : drop (n - 1) (dropAt i xs ++ (d ∷ [])) ≡ drop n xs ++ (d ∷ [])
-  drop-removed = rw parted (drop-at (dropAt i (take n xs)) (drop n xs ++ (d ∷ [])) (n - 1) fewer)
-
-module _ {A : Type 0} (d : A) where
-  unmoved : (i : ℕ) (xs : List A) → i < length xs → xs ≡ filled (dropAt i xs ++ (d ∷ [])) xs i
-  unmoved i [] h = absurd (not-suc-le-zero h)
-  unmoved zero (x ∷ xs) h = refl
-  unmoved (suc i) (x ∷ xs) h = ap (λ l. x ∷ l) (unmoved i xs (le-of-suc-le-suc h))
-
-  moved : (i : ℕ) (xs : List A) (j : ℕ) (e : A) → i ≤ j → suc j < length xs → getD (dropAt i xs ++ (d ∷ [])) j e ≡ getD xs (suc j) e
-  moved i [] j e p h = absurd (not-suc-le-zero h)
-  moved zero (x ∷ xs) j e p h = List·getD-append xs (d ∷ []) e j (le-of-suc-le-suc h)
-  moved (suc i) (x ∷ xs) zero e p h = absurd (not-suc-le-zero p)
-  moved (suc i) (x ∷ xs) (suc j) e p h = moved i xs j e (le-of-suc-le-suc p) (le-of-suc-le-suc h)
-
-pub remove-start : {A : Type 0} {d : A} {i : ℕ} {xs : List A} {k : ℕ} → length xs ≡ k → i < k → Removing d i xs k xs i
-remove-start {d = d} {i = i} {xs = xs} l h = record { long = l; from = omega arith; at = h; rest = unmoved d i xs (omega arith) }
-
-module _ {A : Type 0} {d : A} {i : ℕ} {xs : List A} {k : ℕ} {vs : List A} {j : ℕ} (inv : Removing d i xs k vs j) where
-  removed-long : length (dropAt i xs ++ (d ∷ [])) ≡ k
-  removed-long = let l = inv .long in let p = inv .from in let q = inv .at in simp length-append (omega (arith, length-dropAt i xs (omega arith)))
-
-  pub remove-next : (e : A) {r : A} → j + 1 < k → r ≡ getD xs (j + 1) e → Removing d i xs k (set vs j r) (j + 1)
-  remove-next e h q =
-      let l = inv .long in
-      let p = inv .from in
-      let a : j < length (dropAt i xs ++ (d ∷ [])) = rw removed-long (omega arith) in
-      let m : suc j < length xs = omega arith in
-      record {
-        long = l;
-        from = omega arith;
-        at = h;
-        rest = rw (q, inv .rest, add-one j, ← moved d i xs j e p m, ← add-one j) (fill-step (dropAt i xs ++ (d ∷ [])) xs j e a (omega arith));
-      }
-
-  pub remove-end : k ≤ j + 1 → set vs j d ≡ dropAt i xs ++ (d ∷ [])
-  remove-end h =
-      let l = inv .long in
-      let p = inv .from in
-      let q = inv .at in
-      let n : length (dropAt i xs) ≡ j = omega (arith, length-dropAt i xs (omega arith)) in
-      let a : j < length (dropAt i xs ++ (d ∷ [])) = rw removed-long (omega arith) in
-      let e : j + 1 ≡ k = omega arith in
-      rw (inv .rest)
-      (ap (set (filled (dropAt i xs ++ (d ∷ [])) xs j) j) (sym (getD-at (dropAt i xs) d [] d j n))
-      ∙ fill-step (dropAt i xs ++ (d ∷ [])) xs j d a (omega arith)
-      ∙ rw e (fill-end (dropAt i xs ++ (d ∷ [])) xs k removed-long l))
 
 -- ---- a loop that copies the k elements of a list to the front of another
 pub record Copying {A : Type 0} (w v : List A) (k : ℕ) (vs : List A) (j : ℕ) : Type 0 where

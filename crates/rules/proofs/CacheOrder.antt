@@ -4,10 +4,10 @@ use mathlib.Core.Path.{_∙_, _≡_, ap, refl, subst, sym}
 use mathlib.Core.Bool.{Bool, false, not, true, true≢false}
 use mathlib.Core.Option.{Option, none, some}
 use mathlib.Core.List.{List, [], _++_, _∷_, map-append}
-use lib.ListN.{length}
+use lib.ListN.{drop, length}
 use lib.Dec.{eqb, leb}
 use lib.IntN.{pos, ℤ}
-use Rattle.rules.specs.Lists.{any, dropAt, headOrZero, InOrder}
+use Rattle.rules.specs.Lists.{any, headOrZero, InOrder}
 use Rattle.rules.specs.Limits.{cacheLimit}
 use Rattle.rules.specs.Refusals.{Refusal, endsSession, first}
 use Rattle.rules.specs.Values.{natOf, Place}
@@ -154,9 +154,9 @@ read-caches-last s k lent p few e =
 -- of keys that stand in an order
 pub gives-way : {k : ℕ} {before after : List Cached} (order : List ℕ) → CachesLast k before after → length before ≡ cacheLimit → InOrder (keysOf before) order
     → GivesWay k order (keysOf before) (keysOf after)
-gives-way {k} {before} order c full o = last-key c ∙ ap (λ l. l ++ (k ∷ [])) (first-gone before full ∙ ap (dropAt 0) o)
+gives-way {k} {before} order c full o = last-key c ∙ ap (λ l. l ++ (k ∷ [])) (first-gone before full ∙ ap (drop 1) o)
   where
-    first-gone : (l : List Cached) → length l ≡ cacheLimit → keysOf (evicted l) ≡ dropAt 0 (keysOf l)
+    first-gone : (l : List Cached) → length l ≡ cacheLimit → keysOf (evicted l) ≡ drop 1 (keysOf l)
     first-gone [] e = refl
     first-gone (x ∷ l) e = rw e refl
 

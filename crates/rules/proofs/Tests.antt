@@ -4,10 +4,10 @@ use native.Mathlib.Omega.{arith}
 use mathlib.Core.Path.{_∙_, _≡_, ap, ap₂, refl, sym}
 use mathlib.Core.Bool.{Bool, _&&_, false, not, true, true≢false}
 use mathlib.Core.List.{List, [], _++_, _∷_, map}
-use lib.ListN.{length, take}
+use lib.ListN.{length, take, drop}
 use lib.Dec.{eqb, leb, ltb}
 use borrow.Author.Tests.{eqb-false, eqb-true, le-leb, lt-ltb, not-true}
-use Rattle.rules.specs.Lists.{keep, any, all, pairwise, sameList, dropAt, has, span, upto, isOnce}
+use Rattle.rules.specs.Lists.{keep, any, all, pairwise, sameList, has, span, upto, isOnce}
 use Rattle.rules.proofs.Laws.{byCase, eqb-sym, and-true, both}
 
 -- no number twice
@@ -59,10 +59,10 @@ module _ {A : Type 0} where
   all-take f (suc n) [] e = refl
   all-take f (suc n) (a ∷ l) e = both (f a) (all f (take n l)) (all-head f a l e) (all-take f n l (all-tail f a l e))
 
-  pub all-dropAt : (f : A → Bool) (n : ℕ) (l : List A) → all f l ≡ true → all f (dropAt n l) ≡ true
-  all-dropAt f n [] e = refl
-  all-dropAt f zero (a ∷ l) e = all-tail f a l e
-  all-dropAt f (suc n) (a ∷ l) e = both (f a) (all f (dropAt n l)) (all-head f a l e) (all-dropAt f n l (all-tail f a l e))
+  pub all-drop : (f : A → Bool) (n : ℕ) (l : List A) → all f l ≡ true → all f (drop n l) ≡ true
+  all-drop f zero l e = e
+  all-drop f (suc n) [] e = refl
+  all-drop f (suc n) (a ∷ l) e = all-drop f n l (all-tail f a l e)
 
   pub length-keep : (f : A → Bool) (l : List A) → length (keep f l) ≤ length l
   length-keep f [] = omega arith

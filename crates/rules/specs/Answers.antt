@@ -4,10 +4,10 @@ use mathlib.Core.Path.{_≡_}
 use mathlib.Core.Bool.{Bool, _&&_, cond, false, not, true}
 use mathlib.Core.Logic.{_⊎_}
 use mathlib.Core.List.{List, [], _++_, _∷_, map}
-use lib.ListN.{length}
+use lib.ListN.{drop, length}
 use lib.Dec.{leb}
 use lib.IntN.{pos, ℤ}
-use Rattle.rules.specs.Lists.{keep, dropAt, has, upto}
+use Rattle.rules.specs.Lists.{keep, has, upto}
 use Rattle.rules.specs.Limits.{cacheLimit, rowLimit, sweepLimit, workerCount}
 use Rattle.rules.specs.Changes.{Update, follow}
 use Rattle.rules.specs.Tables.{free, isHeld, isExclusive, documents, Session, hasSlot, session, Cached, isCached, Batch, numbersOf, isBuffered, handed, Plant}
@@ -26,7 +26,7 @@ pub record Opens (n : ℕ) (p q : Plant) : Type 0 where
 pub record CachesLast (k : ℕ) (before after : List Cached) : Type 0 where
   pub new : Cached
   pub key : new .key ≡ k
-  pub last : after ≡ cond (leb cacheLimit (length before)) (dropAt 0 before) before ++ (new ∷ [])
+  pub last : after ≡ cond (leb cacheLimit (length before)) (drop 1 before) before ++ (new ∷ [])
 
 -- of a key k and whether an own change touches a place of it, with the cached keys before and after
 abbrev pub Marks : Mark → ℕ → Bool → List Cached → List Cached → Type 0

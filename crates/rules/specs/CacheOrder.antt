@@ -3,10 +3,10 @@ use Prim.Native.Nat.{_+_, ℕ}
 use mathlib.Core.Path.{_≡_}
 use mathlib.Core.Bool.{cond, false, true}
 use mathlib.Core.List.{List, [], _++_, _∷_}
-use lib.ListN.{length}
+use lib.ListN.{drop, length}
 use lib.Dec.{eqb}
 use lib.IntN.{ℤ}
-use Rattle.rules.specs.Lists.{keep, any, dropAt, has, without, headOrZero, InOrder}
+use Rattle.rules.specs.Lists.{keep, any, has, without, headOrZero, InOrder}
 use Rattle.rules.specs.Limits.{cacheLimit}
 use Rattle.rules.specs.Values.{natOf}
 use Rattle.rules.specs.Tables.{Slot, keysOf, Plant}
@@ -55,7 +55,7 @@ InReadOrder = (ts : List Turn) → InOrder (keysOf ((leftBy ts) .cache)) (readOr
 
 -- of the keys before, the first in the order goes; the others stand in the order, and then the key k
 abbrev pub GivesWay : ℕ → List ℕ → List ℕ → List ℕ → Type 0
-GivesWay k order before after = after ≡ dropAt 0 (keep (λ n. has n before) order) ++ (k ∷ [])
+GivesWay k order before after = after ≡ drop 1 (keep (λ n. has n before) order) ++ (k ∷ [])
 
 -- where a read caches its key and sixteen were cached, the one cached longest ago gives way
 abbrev pub OldestGivesWay : Type 0

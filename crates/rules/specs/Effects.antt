@@ -3,9 +3,9 @@ use Prim.Native.Nat.{_+_, suc, ℕ}
 use mathlib.Core.Bool.{Bool, _&&_, _||_, cond, false, not, true}
 use mathlib.Core.Option.{none, some}
 use mathlib.Core.List.{List, [], _∷_, map}
-use lib.ListN.{length, take}
+use lib.ListN.{length, take, drop}
 use lib.Dec.{eqb, leb}
-use Rattle.rules.specs.Lists.{keep, from, any, pushed, isEmpty, dropAt, override, has}
+use Rattle.rules.specs.Lists.{keep, from, any, pushed, isEmpty, override, has}
 use Rattle.rules.specs.Limits.{cacheLimit, slotLimit, changeLimit, bufferLimit, rowLimit, sweepLimit, leaseTicks, sessionTicks}
 use Rattle.rules.specs.Values.{Place, Stock}
 use Rattle.rules.specs.Changes.{Update, follow, touches}
@@ -59,7 +59,7 @@ mark s k p = cond (touched ((session s (p .slots)) .changes) (p .keys k)) ownCha
 
 -- cached keys stand in the order of the reads that cached them (CacheOrder): of sixteen the one cached longest ago gives way
 abbrev pub evicted : List Cached → List Cached
-evicted l = cond (leb cacheLimit (length l)) (dropAt 0 l) l
+evicted l = cond (leb cacheLimit (length l)) (drop 1 l) l
 
 -- only a read with mark 1 caches
 abbrev pub cacheBy : Mark → Cached → List Cached → List Cached

@@ -7,7 +7,7 @@ use Rattle.cache.proofs.Cache.without_first.Statement.{statement}
 use Rattle.cache.proofs.Cache.without_first.Tie as tie
 
 abbrev Inv-loop : tie.InvT-loop
-Inv-loop n end none t₀ j₀ t j = Shifting none (t₀ .entries) 16 n (t .entries) j
+Inv-loop n end none t₀ j₀ t j = Shifting (t₀ .entries) 16 n (t .entries) j
 
 abbrev μ-loop : tie.MeasureT-loop
 μ-loop n end none t₀ j₀ t j = 16 - j
