@@ -166,6 +166,7 @@ fn cached_keys() {
 fn rules() {
     example(b"leases.lines", b"leases.answers", 123);
     example(b"fields.lines", b"fields.answers", 124);
+    example(b"recalled-lot.lines", b"recalled-lot.answers", 51);
     example(b"refusals.lines", b"refusals.answers", 256);
     example(b"refusal-order.lines", b"refusal-order.answers", 1000);
 }
