@@ -158,7 +158,7 @@ impl Field {
             i += 1;
         }
         let count = m as u8;
-        let kind = Field::LIST; // be it empty
+        let kind = Field::LIST; // still a list, be it empty
         Self {
             kind,
             count,
