@@ -221,7 +221,6 @@ impl Plant {
                 // changes were accepted, so none is refused now.
                 let made = self.stock[place].make(change.kind, change.value);
                 debug_assert!(made.is_ok());
-                self.settled[place] += u16::from(change.settles());
             }
         }
         self.free(slot);
@@ -327,9 +326,6 @@ impl Plant {
         // hand is the oldest buffered one or no longer buffered.
         if self.buffer_count == 0 || self.buffered(0).number != hand.session {
             return Ok(0);
-        }
-        for change in self.buffer[self.buffer_first].changes() {
-            self.settled[usize::from(change.place)] -= u16::from(change.settles());
         }
         self.buffer_first = (self.buffer_first + 1) % BUFFERED;
         self.buffer_count -= 1;

@@ -1,4 +1,4 @@
-//! A second implementation of the stock cache, written from papers 00 and 01, requests (a) to (c) of
+//! A second implementation of the stock cache, written from papers 00 and 01, requests (a) to (d) of
 //! paper 02 and the open points decided for them.
 
 mod cached;
@@ -12,3 +12,4 @@ pub mod random;
 pub mod refusal;
 pub mod serve;
 mod value;
+pub mod walk;

@@ -74,8 +74,8 @@ pub struct Hand {
 
 /// The whole plant.
 ///
-/// Beside the tables of the paper it keeps three that follow from them, so that calls look
-/// values up instead of working them out: `stock`, `shown` and `settled`.
+/// Beside the tables of the paper it keeps two that follow from them, so that calls look values up
+/// instead of working them out: `stock` and `shown`.
 #[derive(Clone, PartialEq, Eq, Debug)]
 pub struct Plant {
     pub clock: u64,
@@ -106,8 +106,6 @@ pub struct Plant {
     pub buffer: [Buffered; BUFFERED],
     pub buffer_first: usize,
     pub buffer_count: usize,
-    /// For each place, how many buffered changes set or unset it.
-    pub settled: [u16; PLACES],
 
     pub hands: [Hand; WORKERS],
     /// The queue lease: live while the clock is below `lease_until`.
@@ -176,7 +174,6 @@ impl Plant {
             buffer: [Buffered::EMPTY; BUFFERED],
             buffer_first: 0,
             buffer_count: 0,
-            settled: [0; PLACES],
             hands: [Hand::EMPTY; WORKERS],
             lease_holder: NOBODY,
             lease_until: 0,
@@ -225,10 +222,7 @@ impl Plant {
     /// Whether the field's value can be told: the store is near, a cached key shows the field, or
     /// a buffered change or one of the session's own sets or unsets it.
     pub fn known(&self, slot: usize, place: u8) -> bool {
-        self.near
-            || self.shown[usize::from(place)] > 0
-            || self.settled[usize::from(place)] > 0
-            || self.sessions[slot].changes().iter().any(|change| change.place == place && change.settles())
+        self.near || self.shown[usize::from(place)] > 0 || self.walk(slot, place).settled
     }
 }
 

@@ -30,10 +30,6 @@ fn check_tables(plant: &Plant) {
             key.places().contains(&(place as u8))
         });
         assert_eq!(usize::from(plant.shown[place]), shown.count());
-        let settled = (0..plant.buffer_count)
-            .flat_map(|at| plant.buffered(at).changes())
-            .filter(|change| usize::from(change.place) == place && change.settles());
-        assert_eq!(usize::from(plant.settled[place]), settled.count());
     }
     assert_eq!(plant.cached().iter().fold(0, |set, &key| set | 1 << key), plant.cached_set);
     assert_eq!(plant.cached_set.count_ones() as usize, plant.cached_count);
