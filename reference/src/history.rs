@@ -1,18 +1,19 @@
 //! The history of demand 3, kept from calls and their answers alone (paper 01, "The history of demand 3").
 //!
 //! No plant is asked here. An accepted call is noted and its answer held to what the history says;
-//! a refused one notes nothing, except that 3 and 4 end the session's leases. Of refusals those of
-//! apply and sweep are held, because what a sweep left shows in them, and for what a pull left those
-//! of load and 6, 7 and 8 of change.
+//! a refused one notes nothing, except that 3 and 4 end the session. Of refusals those of apply and
+//! sweep are held, because what a sweep left shows in them, those of load for what a pull left, and
+//! those of all calls that terminals make: what is known without the store shows in 20, and whether
+//! that is due depends on the refusals before it.
 
 use std::collections::VecDeque;
 use std::fmt;
 
 use crate::cached::Cached;
 use crate::calls::{change_of, index, place, DONE, DONE_BEFORE, NO_WORD};
-use crate::field::{Change, WORDS};
+use crate::field::{Change, SET, UNSET, WORDS};
 use crate::lines::{call_columns, parse, read_number, Call, CALL_COLUMNS};
-use crate::plant::{CHANGES, KEYS, KEY_PLACES, PLACES, ROWS, SWEPT, WORKERS};
+use crate::plant::{BUFFERED, CHANGES, KEYS, KEY_PLACES, PLACES, ROWS, SWEPT, WORKERS};
 use crate::refusal::Refusal;
 use crate::value::Value;
 
@@ -41,6 +42,11 @@ pub struct Held {
     /// Changes of committed pages, and loads and changes refused 6, 7 or 8.
     pub committed_changes: u64,
     pub unfit: u64,
+    /// Without the store: reads and changes 3 to 6 that were accepted, and those refused 20.
+    pub known: u64,
+    pub unknown: u64,
+    /// Other refusals of the calls that terminals make.
+    pub turned_away: u64,
     pub reports: u64,
     pub takes: u64,
     /// Applies that were accepted, and sessions that they carried to the store.
@@ -61,7 +67,8 @@ impl fmt::Display for Held {
             "no contradiction: {} lines, {} accepted; {} pages, {} committed, {} of them buffered; \
              {} reads held as answered, {} of them again at their commit; \
              marks held: {} hits, {} misses, {} own; {} keys gave way, {} dropped; {} committed changes, \
-             {} refused for their field; {} reports; \
+             {} refused for their field; without the store {} known and {} refused; \
+             {} terminals turned away otherwise; {} reports; \
              {} takes, {} applies, {} sessions carried, {} deletes; {} sweeps of {} rows, {} refused; \
              {} applies to full rows refused",
             self.lines,
@@ -78,6 +85,9 @@ impl fmt::Display for Held {
             self.dropped,
             self.committed_changes,
             self.unfit,
+            self.known,
+            self.unknown,
+            self.turned_away,
             self.reports,
             self.takes,
             self.applies,
@@ -113,9 +123,8 @@ enum Entry {
 /// A session's page.
 #[derive(Default)]
 struct Page {
+    /// Dropped when the session ends, but for the changes while they are buffered.
     entries: Vec<Entry>,
-    /// Whether commit or abandon was accepted; the entries are dropped then.
-    ended: bool,
     /// Its place among the committed pages that change something.
     order: Option<usize>,
 }
@@ -127,6 +136,16 @@ impl Page {
             Entry::Read { .. } => None,
         })
     }
+
+    /// Whether a change on the page sets or unsets the place.
+    fn settles(&self, place: u8) -> bool {
+        self.changes().any(|change| change.place == place && !needs_known(change))
+    }
+}
+
+/// Changes 3 to 6 need a known field; set and unset leave one.
+fn needs_known(change: &Change) -> bool {
+    change.kind != SET && change.kind != UNSET
 }
 
 /// The session noted for a worker.
@@ -222,11 +241,8 @@ fn out_of_range(_: Refusal) -> String {
 }
 
 /// Holds that an accepted call meets no refusal.
-fn accepted(what: &str, refusal: Option<Refusal>) -> Result<(), String> {
-    match refusal {
-        Some(refusal) => Err(format!("{what} was accepted, but meets refusal {}", refusal.number())),
-        None => Ok(()),
-    }
+fn accepted<T>(what: &str, due: Result<T, Refusal>) -> Result<T, String> {
+    due.map_err(|refusal| format!("{what} was accepted, but meets refusal {}", refusal.number()))
 }
 
 impl History {
@@ -285,32 +301,38 @@ impl History {
         }
     }
 
-    /// Refusals 3 and 4 end the session that met them; its leases are gone. Those of load, apply and sweep are held,
-    /// and 6, 7 and 8 of change.
+    /// Holds the refusal to the one that is due, of the calls that terminals make and of load, apply and sweep. Refusals
+    /// 3 and 4 end the session that met them.
     fn refused(&mut self, call: &[u8], refusal: u8) -> Result<(), String> {
         let Ok(Call { call, numbers }) = parse(call) else {
             return Ok(());
         };
-        if refusal == Refusal::Doomed.number() || refusal == Refusal::LeasedExclusive.number() {
-            if let Ok(page) = self.open(numbers[0]) {
-                self.cached.end(page);
-            }
-        }
-        let unfit = UNFIT.map(Refusal::number).contains(&refusal);
         let due = match call {
-            1 => self.load_refusal(&numbers),
-            5 if unfit => self.change_refusal(&numbers)?,
-            10 => self.apply_refusal(numbers[0], numbers[1]),
-            13 => self.sweep_refusal(),
+            1 => self.load_due(&numbers).err(),
+            3 => self.begin_due().err(),
+            4 => self.read_due(numbers[0], numbers[1]).err(),
+            5 => self.change_due(&numbers).err(),
+            6 => self.commit_due(numbers[0]).err(),
+            7 | 15 => self.live(numbers[0]).err(),
+            10 => self.apply_due(numbers[0], numbers[1]).err(),
+            13 => self.sweep_due().err(),
             _ => return Ok(()),
         };
-        if due.map(Refusal::number) != Some(refusal) {
+        let Some(due) = due.filter(|due| due.number() == refusal) else {
             let due = due.map_or("none".to_string(), |due| due.number().to_string());
             return Err(format!("was refused {refusal}, the history has {due}"));
+        };
+        if matches!(due, Refusal::Doomed | Refusal::LeasedExclusive) {
+            self.cached.end(numbers[0] as usize - 1);
         }
-        self.held.unfit += u64::from(unfit);
-        self.held.sweeps_refused += u64::from(call == 13);
-        self.held.rows_full += u64::from(due == Some(Refusal::RowsFull));
+        let terminal = matches!(call, 3..=7 | 15);
+        match due {
+            _ if UNFIT.contains(&due) => self.held.unfit += 1,
+            Refusal::StoreAway if terminal => self.held.unknown += 1,
+            Refusal::RowsFull => self.held.rows_full += 1,
+            _ if terminal => self.held.turned_away += 1,
+            _ => self.held.sweeps_refused += u64::from(call == 13),
+        }
         Ok(())
     }
 
@@ -320,14 +342,20 @@ impl History {
         self.keys[key].as_ref().ok_or_else(|| format!("was accepted for key {key}, which was not mapped"))
     }
 
-    /// The index of the page of a session that has begun and neither committed nor been abandoned.
-    fn open(&self, session: i64) -> Result<usize, String> {
-        let page = usize::try_from(session).ok().and_then(|session| session.checked_sub(1));
-        match page.and_then(|page| Some((page, self.pages.get(page)?))) {
-            Some((page, opened)) if !opened.ended => Ok(page),
-            Some(_) => Err(format!("was accepted for session {session}, which has ended")),
-            None => Err(format!("was accepted for session {session}, which has not begun")),
-        }
+    /// The index of the page of a session that has a slot and was not doomed; else refusal 2 or 3.
+    fn live(&self, session: i64) -> Result<usize, Refusal> {
+        let page = usize::try_from(session - 1).map_err(|_| Refusal::NoSession)?;
+        self.cached.live(page)?;
+        Ok(page)
+    }
+
+    /// Whether the session of the page can tell the field: the store is near, a cached key shows it, or a buffered
+    /// change or one on the page sets or unsets it.
+    fn known(&self, page: usize, place: u8) -> bool {
+        self.near
+            || self.cached.shows(place)
+            || self.pages[page].settles(place)
+            || self.buffered.iter().any(|&buffered| self.pages[buffered].settles(place))
     }
 
     /// Makes the change on the stock, or tells the refusal that it meets there.
@@ -338,30 +366,28 @@ impl History {
     }
 
     /// A field as the session of the page sees it: the stock followed by the changes on the page.
-    fn seen(&self, page: usize, place: u8) -> Result<Value, String> {
-        let mut value = self.stock[usize::from(place)].clone();
-        for change in self.pages[page].changes().filter(|change| change.place == place) {
-            value = value.after(change).map_err(|refusal| {
-                format!("an earlier change of the session would now be refused {}", refusal.number())
-            })?;
-        }
-        Ok(value)
+    fn seen(&self, page: usize, place: u8) -> Result<Value, Refusal> {
+        let changes = self.pages[page].changes().filter(|change| change.place == place);
+        changes.fold(Ok(self.stock[usize::from(place)].clone()), |value, change| value?.after(change))
     }
 
-    /// The refusal that a load meets. After set-up it would change the place of pages that were held already.
-    fn load_refusal(&self, numbers: &[i64]) -> Option<Refusal> {
-        match change_of(numbers[0], numbers[1], numbers[2], numbers[3]) {
-            Err(refusal) => Some(refusal),
-            Ok(_) if !self.pages.is_empty() => Some(Refusal::SessionBegun),
-            Ok(_) if !self.near => Some(Refusal::StoreAway),
-            Ok(change) => self.stock[usize::from(change.place)].after(&change).err(),
+    /// The change of a load, or the refusal that it meets. After set-up it would change the place of pages that were
+    /// held already.
+    fn load_due(&self, numbers: &[i64]) -> Result<Change, Refusal> {
+        let change = change_of(numbers[0], numbers[1], numbers[2], numbers[3])?;
+        if !self.pages.is_empty() {
+            return Err(Refusal::SessionBegun);
         }
+        if !self.near {
+            return Err(Refusal::StoreAway);
+        }
+        self.stock[usize::from(change.place)].after(&change)?;
+        Ok(change)
     }
 
     fn load(&mut self, numbers: &[i64]) -> Result<(), String> {
-        accepted("load", self.load_refusal(numbers))?;
-        let change = change_of(numbers[0], numbers[1], numbers[2], numbers[3]).map_err(out_of_range)?;
-        accepted("load", self.make(&change).err())
+        let change = accepted("load", self.load_due(numbers))?;
+        accepted("load", self.make(&change))
     }
 
     fn map(&mut self, numbers: &[i64]) -> Result<(), String> {
@@ -381,7 +407,15 @@ impl History {
         Ok(())
     }
 
+    fn begin_due(&self) -> Result<(), Refusal> {
+        if self.pages.len() >= u32::MAX as usize {
+            return Err(Refusal::NumbersSpent);
+        }
+        self.cached.has_room()
+    }
+
     fn begin(&mut self, session: i64) -> Result<(), String> {
+        accepted("begin", self.begin_due())?;
         equal("begin", session, self.pages.len() + 1)?;
         self.cached.begin(self.pages.len(), self.clock);
         self.pages.push(Page::default());
@@ -389,12 +423,24 @@ impl History {
         Ok(())
     }
 
+    /// The page and the places of a read, or the refusal that it meets. A line's words are never too few for it.
+    fn read_due(&self, session: i64, key: i64) -> Result<(usize, &[u8]), Refusal> {
+        let key = index(key, KEYS)?;
+        let page = self.live(session)?;
+        let places = self.keys[key].as_ref().ok_or(Refusal::KeyUndefined)?;
+        self.cached.unhindered(page, places)?;
+        if !places.iter().all(|&place| self.known(page, place)) {
+            return Err(Refusal::StoreAway);
+        }
+        Ok((page, places))
+    }
+
     fn read(&mut self, session: i64, key: i64, mark: i64, shown: &[i64]) -> Result<(), String> {
-        let page = self.open(session)?;
-        let places = self.key(key)?.clone();
+        let (page, places) = accepted("read", self.read_due(session, key))?;
+        let places = places.to_vec();
         // Demand 2: a read shows all committed sessions and then the reader's own changes.
-        let values: Result<Vec<Value>, String> = places.iter().map(|&place| self.seen(page, place)).collect();
-        let expected: Vec<i64> = values?.iter().flat_map(Value::words).collect();
+        let values: Result<Vec<Value>, Refusal> = places.iter().map(|&place| self.seen(page, place)).collect();
+        let expected: Vec<i64> = accepted("read", values)?.iter().flat_map(Value::words).collect();
         if shown != expected {
             return Err(format!("read showed {shown:?}, the history has {expected:?}"));
         }
@@ -402,6 +448,7 @@ impl History {
         self.cached.read(page, &places, self.clock);
         self.pages[page].entries.push(Entry::Read { places, words: shown.to_vec() });
         self.held.reads += 1;
+        self.held.known += u64::from(!self.near);
         Ok(())
     }
 
@@ -427,34 +474,43 @@ impl History {
         Ok(())
     }
 
-    /// The refusal that the field gives to a change: 6, 7 or 8. Slots, leases and known fields are not told here.
-    fn change_refusal(&self, numbers: &[i64]) -> Result<Option<Refusal>, String> {
-        match (change_of(numbers[1], numbers[2], numbers[3], numbers[4]), self.open(numbers[0])) {
-            (Err(refusal), _) => Ok(Some(refusal)),
-            (_, Err(_)) => Ok(Some(Refusal::NoSession)),
-            (Ok(change), Ok(page)) => Ok(self.seen(page, change.place)?.after(&change).err()),
+    /// The page and the change, or the refusal that it meets. Set and unset fit a field that is not known.
+    fn change_due(&self, numbers: &[i64]) -> Result<(usize, Change), Refusal> {
+        let change = change_of(numbers[1], numbers[2], numbers[3], numbers[4])?;
+        let page = self.live(numbers[0])?;
+        if self.pages[page].changes().count() >= CHANGES {
+            return Err(Refusal::ChangesFull);
         }
+        self.cached.unhindered(page, &[change.place])?;
+        if needs_known(&change) && !self.known(page, change.place) {
+            return Err(Refusal::StoreAway);
+        }
+        self.seen(page, change.place)?.after(&change)?;
+        Ok((page, change))
     }
 
     fn change(&mut self, numbers: &[i64], count: i64) -> Result<(), String> {
-        let page = self.open(numbers[0])?;
-        let change = change_of(numbers[1], numbers[2], numbers[3], numbers[4]).map_err(out_of_range)?;
-        accepted("change", self.change_refusal(numbers)?)?;
+        let (page, change) = accepted("change", self.change_due(numbers))?;
         self.cached.change(page, change.place, self.clock);
         self.pages[page].entries.push(Entry::Change(change));
-        let changes = self.pages[page].changes().count();
-        equal("change", count, changes)?;
-        if changes > CHANGES {
-            return Err(format!("change was accepted with {CHANGES} changes on the page"));
+        self.held.known += u64::from(!self.near && needs_known(&change));
+        equal("change", count, self.pages[page].changes().count())
+    }
+
+    /// The page of a commit, or the refusal that it meets: 15 only with a change on the page.
+    fn commit_due(&self, session: i64) -> Result<usize, Refusal> {
+        let page = self.live(session)?;
+        if self.buffered.len() >= BUFFERED && self.pages[page].changes().next().is_some() {
+            return Err(Refusal::BufferFull);
         }
-        Ok(())
+        Ok(page)
     }
 
     /// Demand 3 about one page: at its place none of its changes is refused, and each of its reads
     /// showed what it would show there.
     fn commit(&mut self, session: i64, count: i64) -> Result<(), String> {
-        let page = self.open(session)?;
-        let entries = std::mem::take(&mut self.pages[page].entries);
+        let page = accepted("commit", self.commit_due(session))?;
+        let mut entries = std::mem::take(&mut self.pages[page].entries);
         let mut changes = 0;
         for entry in &entries {
             match entry {
@@ -476,11 +532,12 @@ impl History {
                 }
             }
         }
-        self.pages[page].ended = true;
         self.cached.end(page);
         self.held.committed += 1;
         self.held.committed_changes += changes;
         if changes > 0 {
+            entries.retain(|entry| matches!(entry, Entry::Change(_)));
+            self.pages[page].entries = entries;
             self.pages[page].order = Some(self.changing);
             self.changing += 1;
             self.buffered.push_back(page);
@@ -490,8 +547,8 @@ impl History {
     }
 
     fn abandon(&mut self, session: i64) -> Result<(), String> {
-        let page = self.open(session)?;
-        self.pages[page] = Page { ended: true, ..Page::default() };
+        let page = accepted("abandon", self.live(session))?;
+        self.pages[page].entries.clear();
         self.cached.end(page);
         Ok(())
     }
@@ -530,30 +587,27 @@ impl History {
         Ok(())
     }
 
-    /// The refusal that an apply meets: 19 where no room is left for its row, unless the reply is lost or it never
-    /// reached the store.
-    fn apply_refusal(&self, worker: i64, fate: i64) -> Option<Refusal> {
-        let (Ok(worker), Ok(fate)) = (index(worker, WORKERS), index(fate, 3)) else {
-            return Some(Refusal::OutOfRange);
-        };
+    /// The worker of an apply and the session in its hand, or the refusal that it meets: 19 where no room is left for its
+    /// row, unless the reply is lost or it never reached the store.
+    fn apply_due(&self, worker: i64, fate: i64) -> Result<(usize, usize), Refusal> {
+        let worker = index(worker, WORKERS)?;
+        let fate = index(fate, 3)?;
         let Some(Note { session, replied: false }) = self.notes[worker] else {
-            return Some(Refusal::WrongHand);
+            return Err(Refusal::WrongHand);
         };
         if !self.near {
-            return Some(Refusal::StoreAway);
+            return Err(Refusal::StoreAway);
         }
-        let full = self.rows.len() >= ROWS && !self.rows.contains(&session);
-        (full && fate == 0).then_some(Refusal::RowsFull)
+        if fate == 0 && self.rows.len() >= ROWS && !self.rows.contains(&session) {
+            return Err(Refusal::RowsFull);
+        }
+        Ok((worker, session))
     }
 
     /// The reply is done before if the session's row is there, else done. The row stays while the session is buffered
     /// or in a hand, so each session is carried once.
     fn apply(&mut self, worker: i64, fate: i64, reply: i64) -> Result<(), String> {
-        accepted("apply", self.apply_refusal(worker, fate))?;
-        let worker = index(worker, WORKERS).map_err(out_of_range)?;
-        let Some(Note { session, .. }) = self.notes[worker] else {
-            return Err("apply was accepted without a session in hand".to_string());
-        };
+        let (worker, session) = accepted("apply", self.apply_due(worker, fate))?;
         self.held.applies += 1;
         let before = self.rows.contains(&session);
         if fate == 0 {
@@ -578,6 +632,7 @@ impl History {
         equal("delete", removed, usize::from(place.is_some()))?;
         if let Some(place) = place {
             self.buffered.remove(place);
+            self.pages[session].entries.clear();
         }
         self.notes[worker] = None;
         self.held.deletes += 1;
@@ -590,13 +645,17 @@ impl History {
         Ok(())
     }
 
-    fn sweep_refusal(&self) -> Option<Refusal> {
-        (!self.near).then_some(Refusal::StoreAway)
+    fn sweep_due(&self) -> Result<(), Refusal> {
+        if self.near {
+            Ok(())
+        } else {
+            Err(Refusal::StoreAway)
+        }
     }
 
     /// Request (b): of the rows whose session is neither buffered nor in a hand exactly the first sixteen go, or all.
     fn sweep(&mut self, removed: i64) -> Result<(), String> {
-        accepted("sweep", self.sweep_refusal())?;
+        accepted("sweep", self.sweep_due())?;
         let noted = self.notes.iter().flatten().map(|note| note.session);
         let needed: Vec<usize> = self.buffered.iter().copied().chain(noted).collect();
         let may_go: Vec<usize> = self.rows.iter().copied().filter(|page| !needed.contains(page)).collect();
@@ -617,7 +676,7 @@ impl History {
 
     /// A session holds exclusive what its page changes, and shared what the page reads besides.
     fn report(&mut self, session: i64, answered: &[i64]) -> Result<(), String> {
-        let page = &self.pages[self.open(session)?];
+        let page = &self.pages[accepted("report", self.live(session))?];
         let mut exclusive = 0_u64;
         let mut shared = 0_u64;
         for entry in &page.entries {

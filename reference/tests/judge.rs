@@ -5,6 +5,7 @@ mod common;
 use common::{line, list};
 use reference_plant::generator::{generate, Profile};
 use reference_plant::history::{judge, Held};
+use reference_plant::lines::parse;
 use reference_plant::plant::Plant;
 use reference_plant::serve::serve;
 
@@ -66,6 +67,9 @@ fn a_right_dialogue_is_held() {
         dropped: 0,
         committed_changes: 2,
         unfit: 0,
+        known: 0,
+        unknown: 0,
+        turned_away: 0,
         reports: 2,
         takes: 2,
         applies: 3,
@@ -80,75 +84,73 @@ fn a_right_dialogue_is_held() {
     assert_eq!(judged::<&str>(&[]), Ok(Held::default()));
 }
 
-/// The dialogue with the answer of one line replaced must be refused at that line, or at a later
-/// one where the history first tells.
+/// The dialogue with the answer of one line replaced must be refused at that line.
 #[test]
 fn a_tampered_dialogue_is_refused() {
-    for (at, answer, refused) in [
+    for (at, answer) in [
         // A wrong session number, a number too many, a number too few.
-        (3, "0 2", 3),
-        (4, "0 1", 4),
-        (2, "0 1", 2),
-        (3, "0", 3),
+        (3, "0 2"),
+        (4, "0 1"),
+        (2, "0 1"),
+        (3, "0"),
         // Reads: a wrong value, a wrong kind, a wrong mark, too few words.
-        (5, "0 1 1 1 99 0 0 0 0 0 0 0 0 0 0 0 0 0", 5),
-        (8, "0 2 1 1 100 0 0 0 0 0 2 1 7 0 0 0 0 0", 8),
-        (8, "0 1 1 1 75 0 0 0 0 0 2 1 7 0 0 0 0 0", 8),
-        (11, "0 0 1 1 100 0 0 0 0 0 0 0 0 0 0 0 0 0", 11),
-        (11, "0 2 1 1 75 0 0 0 0 0 2 1 7 0 0 0 0 0", 11),
-        (5, "0 0 1 1 100 0 0 0 0 0 0 0 0 0 0 0 0 0", 5),
-        (8, "0 0 1 1 75 0 0 0 0 0 2 1 7 0 0 0 0 0", 8),
-        (11, "0 1 1 1 75 0 0 0 0 0 2 1 7 0 0 0 0 0", 11),
-        (11, "0 0 1 1 75 0 0 0 0 0", 11),
+        (5, "0 1 1 1 99 0 0 0 0 0 0 0 0 0 0 0 0 0"),
+        (8, "0 2 1 1 100 0 0 0 0 0 2 1 7 0 0 0 0 0"),
+        (8, "0 1 1 1 75 0 0 0 0 0 2 1 7 0 0 0 0 0"),
+        (11, "0 0 1 1 100 0 0 0 0 0 0 0 0 0 0 0 0 0"),
+        (11, "0 2 1 1 75 0 0 0 0 0 2 1 7 0 0 0 0 0"),
+        (5, "0 0 1 1 100 0 0 0 0 0 0 0 0 0 0 0 0 0"),
+        (8, "0 0 1 1 75 0 0 0 0 0 2 1 7 0 0 0 0 0"),
+        (11, "0 1 1 1 75 0 0 0 0 0 2 1 7 0 0 0 0 0"),
+        (11, "0 0 1 1 75 0 0 0 0 0"),
         // Counts of change, report and commit.
-        (6, "0 2", 6),
-        (7, "0 1", 7),
-        (9, "0 1 1 2", 9),
-        (9, "0 0 1 2", 9),
-        (9, "0 0 2 1", 9),
-        (12, "0 1 0 0", 12),
-        (10, "0 0", 10),
-        (13, "0 2", 13),
-        // A commit that was refused does not make the session buffered.
-        (10, "15", 11),
-        // A change that was refused is not on the page; 6, 7 and 8 are refused at once where the field allows it.
-        (6, "5", 7),
-        (6, "6", 6),
-        (6, "7", 6),
-        (6, "8", 6),
-        (1, "6", 1),
-        (1, "12", 1),
-        (1, "20", 1),
+        (6, "0 2"),
+        (7, "0 1"),
+        (9, "0 1 1 2"),
+        (9, "0 0 1 2"),
+        (9, "0 0 2 1"),
+        (12, "0 1 0 0"),
+        (10, "0 0"),
+        (13, "0 2"),
+        // A commit and changes refused without reason.
+        (10, "15"),
+        (6, "5"),
+        (6, "6"),
+        (6, "7"),
+        (6, "8"),
+        (1, "6"),
+        (1, "12"),
+        (1, "20"),
         // Workers: another session, a word that cannot come, done twice, gone too soon.
-        (14, "0 2", 14),
-        (15, "0 1", 15),
-        (18, "0 1", 18),
-        (18, "0 0", 18),
-        (20, "0 0", 20),
-        (22, "0 1", 22),
-        (23, "0 1", 23),
-        (25, "0 1", 25),
+        (14, "0 2"),
+        (15, "0 1"),
+        (18, "0 1"),
+        (18, "0 0"),
+        (20, "0 0"),
+        (22, "0 1"),
+        (23, "0 1"),
+        (25, "0 1"),
         // A row swept while the session is buffered or in a hand, or none though there is one.
-        (19, "0 1", 19),
-        (21, "0 1", 21),
-        (24, "0 0", 24),
-        (24, "0 2", 24),
-        (24, "0 16", 24),
-        (24, "0 -1", 24),
+        (19, "0 1"),
+        (21, "0 1"),
+        (24, "0 0"),
+        (24, "0 2"),
+        (24, "0 16"),
+        (24, "0 -1"),
         // Sweep and apply refused without reason.
-        (24, "20", 24),
-        (24, "17", 24),
-        (22, "19", 22),
-        (15, "19", 15),
+        (24, "20"),
+        (24, "17"),
+        (22, "19"),
+        (15, "19"),
         // The clock.
-        (16, "0 299", 16),
+        (16, "0 299"),
         // No refusals.
-        (1, "24", 1),
-        (1, "20 1", 1),
+        (1, "24"),
+        (1, "20 1"),
     ] {
         let mut dialogue = DIALOGUE.to_vec();
         dialogue[at - 1].1 = answer;
-        assert_eq!(judged(&dialogue), Err(refused), "answer {answer} to line {at}");
+        assert_eq!(judged(&dialogue), Err(at as u64), "answer {answer} to line {at}");
     }
 }
 
@@ -195,7 +197,7 @@ fn wrong_acceptances_are_refused() {
     }
 }
 
-/// Two sessions that both read 100 and both draw on it: the second commit must not be accepted.
+/// Two sessions that both read 100 and both draw on it: the second is doomed and must be told so.
 #[test]
 fn a_lost_update_is_refused() {
     let dialogue = [
@@ -210,11 +212,13 @@ fn a_lost_update_is_refused() {
         ("5 2 1 0 1 1", "0 1"),
         ("6 2", "0 2"),
     ];
-    assert_eq!(judged(&dialogue), Err(10));
-    assert!(judged(&dialogue[..9]).is_ok());
+    assert_eq!(judged(&dialogue), Err(9));
+    assert!(judged(&dialogue[..8]).is_ok());
+    assert_eq!(judged(&[&dialogue[..8], &[("6 2", "0 1")]].concat()), Err(9));
+    assert!(judged(&[&dialogue[..8], &[("6 2", "3"), ("6 2", "2")]].concat()).is_ok());
 }
 
-/// A committed change that meets refusal 8 at its place.
+/// A change that would meet refusal 8 at its place in commit order meets another's lease before.
 #[test]
 fn a_change_that_does_not_fit_its_place_is_refused() {
     let dialogue = [
@@ -225,7 +229,7 @@ fn a_change_that_does_not_fit_its_place_is_refused() {
         ("6 1", "0 1"),
         ("6 2", "0 2"),
     ];
-    assert_eq!(judged(&dialogue), Err(6));
+    assert_eq!(judged(&dialogue), Err(4));
 }
 
 /// The row of a session in a slow worker's hand was swept, and its draws were made twice.
@@ -594,11 +598,248 @@ fn the_kind_that_a_pull_needs_is_held() {
     last_answer_is_held(&number, &[("5 1 0 0 6 4", "2")], &["6", "7", "0 1"]);
 }
 
+const NUMBER: &str = "1 1 100 0 0 0 0 0";
+const MEMBER: &str = "2 1 7 0 0 0 0 0";
+
+/// 100 at field 0 of document 0 and a list of 7 at that of document 1. Key 0 shows the first, key 1 both, key 2 the
+/// second. Then these lines.
+fn stocked(lines: &[(&str, &str)]) -> Vec<(String, String)> {
+    let set_up = [
+        ("1 0 0 1 100", "0"),
+        ("1 1 0 5 7", "0"),
+        ("2 0 1 0 0 0 0 0 0 0 0", "0"),
+        ("2 1 2 0 0 1 0 0 0 0 0", "0"),
+        ("2 2 1 1 0 0 0 0 0 0 0", "0"),
+    ];
+    owned(&[&set_up[..], lines].concat())
+}
+
+const AWAY: (&str, &str) = ("14 0", "0");
+
+/// The number can be told by session 9 without the store: reads of key 0 and changes of it must not be refused 20.
+fn number_is_known(before: &[(&str, &str)], mark: u8, number: i64) {
+    let dialogue = stocked(before);
+    let read = format!("0 {mark} 1 1 {number} 0 0 0 0 0");
+    last_answer_is_held(&dialogue, &[("4 9 0", &read)], &["20", "9", "4", "3", "2", "1"]);
+    last_answer_is_held(&dialogue, &[("5 9 0 0 4 7", "6")], &["20", "0 1", "7"]);
+    last_answer_is_held(&dialogue, &[("5 9 0 0 3 2147483647", "8")], &["20", "0 1", "6"]);
+    let count = before.iter().filter(|(call, _)| call.starts_with("5 9 ")).count() + 1;
+    last_answer_is_held(&dialogue, &[("5 9 0 0 3 1", &format!("0 {count}"))], &["20", "8", "6", "5", "4", "3"]);
+    last_answer_is_held(&dialogue, &[("5 9 0 0 1 1", &format!("0 {count}"))], &["20", "8", "6", "5", "4", "3"]);
+}
+
+/// It cannot: each read of it and each change 3 to 6 must be refused 20, and neither set nor unset.
+fn number_is_unknown(before: &[(&str, &str)], number: i64) {
+    let dialogue = stocked(before);
+    let words = format!("1 1 {number} 0 0 0 0 0");
+    let shown = [0, 1, 2].map(|mark| format!("0 {mark} {words}"));
+    let wrong = [&shown.each_ref().map(|shown| &shown[..])[..], &["9", "4", "3", "2", "1"]].concat();
+    last_answer_is_held(&dialogue, &[("4 9 0", "20")], &wrong);
+    let shown = [0, 1, 2].map(|mark| format!("0 {mark} {words} {MEMBER}"));
+    last_answer_is_held(&dialogue, &[("4 9 1", "20")], &shown.each_ref().map(|shown| &shown[..]));
+    let count = before.iter().filter(|(call, _)| call.starts_with("5 9 ")).count() + 1;
+    let accepted = format!("0 {count}");
+    for change in ["3 1", "3 2147483647", "4 7", "5 7", "6 7"] {
+        last_answer_is_held(&dialogue, &[(&format!("5 9 0 0 {change}"), "20")], &[&accepted, "6", "7", "8", "5", "4"]);
+    }
+    for change in ["1 5", "2 0"] {
+        last_answer_is_held(&dialogue, &[(&format!("5 9 0 0 {change}"), &accepted)], &["20", "6", "8"]);
+    }
+}
+
+/// Eight sessions, each with its change of field 0 of document 0, or none, that commit in their order; then session 9
+/// begins and the store goes away.
+fn eight_sessions(changes: &[(u64, &str)]) -> Vec<(String, String)> {
+    let mut lines: Vec<(String, String)> = Vec::new();
+    let mut buffered = 0;
+    for session in 1..=8 {
+        lines.push(("3".to_string(), format!("0 {session}")));
+        for (_, change) in changes.iter().filter(|&&(of, _)| of == session) {
+            lines.push((format!("5 {session} 0 0 {change}"), "0 1".to_string()));
+            buffered += 1;
+        }
+        lines.push((format!("6 {session}"), format!("0 {buffered}")));
+    }
+    lines.extend(owned(&[("3", "0 9"), AWAY]));
+    lines
+}
+
+/// The lines with references, and these behind them.
+fn followed<'a>(lines: &'a [(String, String)], more: &[(&'a str, &'a str)]) -> Vec<(&'a str, &'a str)> {
+    lines.iter().map(|(call, answer)| (&call[..], &answer[..])).chain(more.iter().copied()).collect()
+}
+
+#[test]
+fn with_the_store_near_20_is_refused() {
+    let lines = eight_sessions(&[]);
+    number_is_known(&followed(&lines, &[("14 1", "0")]), 1, 100);
+    number_is_known(&followed(&lines[..lines.len() - 1], &[]), 1, 100);
+    let lines = eight_sessions(&[(3, "3 -25")]);
+    number_is_known(&followed(&lines, &[("14 1", "0")]), 1, 75);
+}
+
+#[test]
+fn what_nothing_tells_is_held_to_20() {
+    number_is_unknown(&followed(&eight_sessions(&[]), &[]), 100);
+    // Neither an inc of it nor sets beside it tell anything.
+    number_is_unknown(&followed(&eight_sessions(&[(2, "3 1"), (8, "3 1")]), &[]), 102);
+    let beside = [("5 9 0 1 1 100", "0 1"), ("5 9 1 0 2 0", "0 2"), ("5 9 1 0 5 7", "0 3")];
+    number_is_unknown(&followed(&eight_sessions(&[]), &beside), 100);
+    // Set or unset in the starting stock or by a page that is not committed.
+    let abandoned = [("3", "0 10"), ("5 10 0 0 1 100", "0 1"), ("7 10", "0")];
+    number_is_unknown(&followed(&eight_sessions(&[]), &abandoned), 100);
+}
+
+#[test]
+fn what_a_buffered_page_tells_is_held() {
+    for session in [1, 4, 8] {
+        number_is_known(&followed(&eight_sessions(&[(session, "1 100")]), &[]), 1, 100);
+    }
+    number_is_known(&followed(&eight_sessions(&[(1, "2 0"), (2, "3 5"), (7, "3 6")]), &[]), 1, 11);
+    number_is_known(&followed(&eight_sessions(&[(1, "3 5"), (2, "2 0"), (7, "3 6")]), &[]), 1, 6);
+    number_is_known(&followed(&eight_sessions(&[(1, "1 5"), (2, "1 6")]), &[]), 1, 6);
+}
+
+/// The oldest page has its row, and tells until it is deleted.
+#[test]
+fn what_a_deleted_page_told_is_held_to_20() {
+    let lines = eight_sessions(&[(1, "1 5"), (2, "3 6"), (5, "3 7")]);
+    let applied = [("14 1", "0"), ("9 0", "0 1"), ("10 0 0", "0 1"), AWAY];
+    number_is_known(&followed(&lines, &applied), 1, 18);
+    let deleted = [&applied[..], &[("11 0", "0 1")]].concat();
+    number_is_unknown(&followed(&lines, &deleted), 18);
+    // An own inc made before tells nothing.
+    let own = [&applied[..], &[("5 9 0 0 3 2", "0 1"), ("11 0", "0 1")]].concat();
+    number_is_unknown(&followed(&lines, &own), 20);
+    let lost = [("14 1", "0"), ("9 0", "0 1"), ("10 0 1", "0 0"), AWAY, ("12 0", "0")];
+    number_is_known(&followed(&lines, &lost), 1, 18);
+    // Deleted while the store is near; a set in a later page tells on.
+    let near = [&applied[..3], &[("11 0", "0 1"), AWAY]].concat();
+    number_is_unknown(&followed(&lines, &near), 18);
+    let lines = eight_sessions(&[(1, "1 5"), (2, "1 6"), (5, "3 7")]);
+    number_is_known(&followed(&lines, &deleted), 1, 13);
+}
+
+#[test]
+fn what_own_changes_tell_is_held() {
+    let lines = eight_sessions(&[]);
+    number_is_known(&followed(&lines, &[("5 9 0 0 1 4", "0 1")]), 2, 4);
+    number_is_known(&followed(&lines, &[("5 9 0 0 2 0", "0 1"), ("5 9 0 0 3 4", "0 2")]), 2, 4);
+    number_is_known(&followed(&lines, &[("5 9 0 0 1 4", "0 1"), ("5 9 0 1 1 8", "0 2")]), 2, 4);
+    // All places of the key are needed, also for mark 2.
+    let own = stocked(&followed(&lines, &[("5 9 0 0 1 4", "0 1"), ("4 9 1", "20")]));
+    last_answer_is_held(&own, &[("4 9 1", "20")], &[&format!("0 2 1 1 4 0 0 0 0 0 {MEMBER}")]);
+    let both = format!("0 2 1 1 4 0 0 0 0 0 {}", list_words(&[9]));
+    let told = [("5 9 1 0 2 0", "0 2"), ("5 9 1 0 5 9", "0 3"), ("4 9 1", &both)];
+    last_answer_is_held(&own, &told, &["20"]);
+}
+
+#[test]
+fn what_cached_keys_tell_is_held() {
+    let lines = eight_sessions(&[]);
+    let (near, number, both) = (("14 1", "0"), format!("0 1 {NUMBER}"), format!("0 1 {NUMBER} {MEMBER}"));
+    let cached = [near, ("3", "0 10"), ("4 10 0", &number), ("6 10", "0 0"), AWAY];
+    number_is_known(&followed(&lines, &cached), 0, 100);
+    // Key 1 has the place as well: key 0 is worked out from it.
+    let other = [near, ("3", "0 10"), ("4 10 1", &both), ("6 10", "0 0"), AWAY];
+    number_is_known(&followed(&lines, &other), 1, 100);
+    // Key 1 has a place that key 0 does not show; key 2 shows it.
+    let dialogue = stocked(&followed(&lines, &cached));
+    last_answer_is_held(&dialogue, &[("4 9 1", "20")], &[&both, &format!("0 0 {NUMBER} {MEMBER}")]);
+    last_answer_is_held(&dialogue, &[("5 9 1 0 6 7", "20")], &["0 1", "6"]);
+    let second = [near, ("4 9 2", &format!("0 1 {MEMBER}")), AWAY, ("4 9 1", &both)];
+    last_answer_is_held(&dialogue, &second, &["20"]);
+    // A key that a lapse dropped tells nothing, and one that was cached by a refused read neither.
+    let lapse = [near, ("3", "0 10"), ("4 10 0", &number), ("8 300", "0 300"), AWAY];
+    number_is_unknown(&followed(&lines, &lapse), 100);
+    let refused = [("4 9 0", "20"), ("4 9 1", "20")];
+    number_is_unknown(&followed(&lines, &refused), 100);
+}
+
+/// A key that gave way tells nothing: with sixteen others cached it was the first.
+#[test]
+fn what_a_key_that_gave_way_told_is_held_to_20() {
+    let sixteen = [sixteen_cached(), vec![with_words("4 1 16", "0 1"), with_words("14 0", "0")]].concat();
+    last_answer_is_held(&sixteen, &[("4 1 0", "20")], &["0 1 0 0 0 0 0 0 0 0", "0 0 0 0 0 0 0 0 0 0"]);
+    last_answer_is_held(&sixteen, &[("5 1 0 0 3 1", "20")], &["0 1"]);
+    last_answer_is_held(&sixteen, &[("5 1 1 0 3 1", "0 1")], &["20"]);
+    last_answer_is_held(&sixteen, &[("4 1 1", "0 0 0 0 0 0 0 0 0 0")], &["20"]);
+}
+
+/// Of the refusals whose conditions hold the first in the order is due.
+#[test]
+fn the_refusals_around_20_are_held() {
+    let dialogue = stocked(&followed(&eight_sessions(&[]), &[("3", "0 10"), ("5 10 0 3 1 1", "0 1")]));
+    last_answer_is_held(&dialogue, &[("4 9 32", "1")], &["20", "2", "9"]);
+    last_answer_is_held(&dialogue, &[("5 9 0 0 7 1", "1")], &["20", "2", "4"]);
+    last_answer_is_held(&dialogue, &[("4 8 0", "2")], &["20", "3", "4"]);
+    last_answer_is_held(&dialogue, &[("5 11 0 0 3 1", "2")], &["20", "3", "4", "0 1"]);
+    last_answer_is_held(&dialogue, &[("4 0 0", "2")], &["20", "3"]);
+    last_answer_is_held(&dialogue, &[("4 9 5", "9")], &["20", "4"]);
+    last_answer_is_held(&dialogue, &[("4 9 0", "4")], &["20", "3"]);
+    last_answer_is_held(&dialogue, &[("4 9 0", "4"), ("4 9 2", "2")], &["20", "3", "4"]);
+    last_answer_is_held(&dialogue, &[("5 9 0 0 3 1", "4")], &["20", "3", "0 1"]);
+    last_answer_is_held(&dialogue, &[("5 9 1 0 3 1", "20")], &["4", "6"]);
+    last_answer_is_held(&dialogue, &[("5 10 0 0 3 1", "20")], &["4", "0 2"]);
+    let lapsed = [("8 300", "0 300"), ("4 10 0", "3"), ("4 10 0", "2")];
+    last_answer_is_held(&dialogue, &lapsed[..2], &["20", "2"]);
+    last_answer_is_held(&dialogue, &lapsed, &["20", "3"]);
+    let mut eight: Vec<(String, String)> =
+        (2..=8).map(|count| ("5 10 0 3 1 1".to_string(), format!("0 {count}"))).collect();
+    eight = [dialogue, eight].concat();
+    last_answer_is_held(&eight, &[("5 10 0 0 3 1", "5")], &["20", "0 9"]);
+    last_answer_is_held(&eight, &[("5 10 0 3 1 1", "5")], &["20", "0 9"]);
+    last_answer_is_held(&eight, &[("4 10 0", "20")], &["5", &format!("0 1 {NUMBER}")]);
+}
+
+/// Slots, and what the other calls of terminals are refused for.
+#[test]
+fn terminals_turned_away_without_reason_are_refused() {
+    let begun: Vec<(String, String)> = (1..=8).map(|session| ("3".to_string(), format!("0 {session}"))).collect();
+    last_answer_is_held(&begun[..7], &[("3", "0 8")], &["10", "11", "0 9"]);
+    last_answer_is_held(&begun, &[("3", "10")], &["0 9", "11"]);
+    let doomed = [("5 3 0 0 1 1", "0 1"), ("5 2 1 0 1 1", "0 1"), ("8 300", "0 300"), ("3", "0 9")];
+    last_answer_is_held(&begun, &doomed, &["10"]);
+    // The doomed one of lowest number has no slot any more.
+    last_answer_is_held(&begun, &[&doomed[..], &[("15 2", "2")]].concat(), &["3", "0 0 0 0"]);
+    last_answer_is_held(&begun, &[&doomed[..], &[("15 3", "3")]].concat(), &["2", "0 0 1 1"]);
+    last_answer_is_held(&begun, &[&doomed[..], &[("15 3", "3"), ("3", "0 10"), ("3", "10")]].concat(), &["0 11"]);
+    for (call, answer) in [("6 1", "0 0"), ("7 1", "0"), ("15 1", "0 0 0 0")] {
+        last_answer_is_held(&begun, &[(call, answer)], &["2", "3", "15", "20"]);
+        last_answer_is_held(&begun, &[("7 1", "0"), (call, "2")], &[answer, "3"]);
+    }
+    // A full buffer turns away only a page with a change.
+    let full: Vec<(String, String)> = (1..=32)
+        .flat_map(|at| {
+            owned(&[
+                ("3", &format!("0 {at}")),
+                (&format!("5 {at} 0 0 1 1"), "0 1"),
+                (&format!("6 {at}"), &format!("0 {at}")),
+            ])
+        })
+        .collect();
+    last_answer_is_held(&full[..93], &[("3", "0 32"), ("5 32 0 0 1 1", "0 1"), ("6 32", "0 32")], &["15"]);
+    last_answer_is_held(&full, &[("3", "0 33"), ("5 33 0 0 1 1", "0 1"), ("6 33", "15")], &["0 33", "2", "3"]);
+    last_answer_is_held(&full, &[("3", "0 33"), ("6 33", "0 32")], &["15"]);
+}
+
 fn generated(seed: u64, lines: u64, profile: Profile) -> (Vec<u8>, Vec<u8>) {
     let (mut calls, mut answers) = (Vec::new(), Vec::new());
     generate(&mut calls, seed, lines, profile).unwrap();
     serve(&mut Plant::new(), &calls[..], &mut answers).unwrap();
     (calls, answers)
+}
+
+/// The lines of a file.
+fn apart(file: &[u8]) -> Vec<&[u8]> {
+    file.strip_suffix(b"\n").unwrap_or(file).split(|&byte| byte == b'\n').collect()
+}
+
+/// The file of these answers with one of them replaced.
+fn replaced(answers: &[&[u8]], at: usize, answer: &[u8]) -> Vec<u8> {
+    let mut lines = answers.to_vec();
+    lines[at] = answer;
+    [&lines.join(&b'\n')[..], b"\n"].concat()
 }
 
 #[test]
@@ -630,7 +871,7 @@ fn each_tampered_number_is_refused() {
     ];
     for (seed, profile) in files {
         let (calls, answers) = generated(seed, 700, profile);
-        let answers_apart: Vec<&[u8]> = answers.strip_suffix(b"\n").unwrap().split(|&byte| byte == b'\n').collect();
+        let answers_apart = apart(&answers);
         let mut tampered_numbers = 0;
         for (at, answer) in answers_apart.iter().enumerate() {
             let numbers = answer.len() / 12;
@@ -640,10 +881,7 @@ fn each_tampered_number_is_refused() {
                 let value: i64 = text.trim().parse().unwrap();
                 let mut tampered = answer.to_vec();
                 tampered[columns].copy_from_slice(format!("{:>12}", value + 1).as_bytes());
-                let mut lines = answers_apart.clone();
-                lines[at] = &tampered;
-                let mut file = lines.join(&b'\n');
-                file.push(b'\n');
+                let file = replaced(&answers_apart, at, &tampered);
                 let contradiction = judge(&calls, &file).expect_err("a number was changed");
                 assert_eq!(contradiction.line, at as u64 + 1);
                 tampered_numbers += 1;
@@ -654,5 +892,23 @@ fn each_tampered_number_is_refused() {
             }
         }
         assert!(tampered_numbers > 300, "{tampered_numbers}");
+    }
+}
+
+/// In generated files each answer to a call of a terminal in form is replaced by each other refusal, one at a time.
+#[test]
+fn each_tampered_refusal_is_refused() {
+    for (seed, profile) in [(1, Profile::Mixed), (2, Profile::Storm), (3, Profile::Storm)] {
+        let (calls, answers) = generated(seed, 500, profile);
+        let answers_apart = apart(&answers);
+        for (at, call) in apart(&calls).iter().enumerate() {
+            let terminal = parse(call).is_ok_and(|call| matches!(call.call, 3..=7 | 15));
+            for refusal in (1..=22).map(|refusal| format!("{refusal:>2}").into_bytes()) {
+                if terminal && refusal != answers_apart[at][..2] {
+                    let contradiction = judge(&calls, &replaced(&answers_apart, at, &refusal)).unwrap_err();
+                    assert_eq!(contradiction.line, at as u64 + 1);
+                }
+            }
+        }
     }
 }
