@@ -95,8 +95,8 @@ enum Step {
 /// A stretch of lines with one inclination.
 struct Phase {
     steps: &'static [(Step, u64)],
-    /// The weights of the fates 0, 1 and 2.
-    fates: [u64; 3],
+    /// The fates with their weights.
+    fates: [(i64, u64); 3],
     /// Whether the phase begins by sending the store away, in so many of a hundred cases.
     away: u64,
     /// The changes it prefers.
@@ -129,7 +129,7 @@ const ORDINARY: Phase = Phase {
         (Step::OutOfRange, 15),
         (Step::Garbled, 15),
     ],
-    fates: [6, 2, 2],
+    fates: [(0, 6), (1, 2), (2, 2)],
     away: 5,
     kinds: EVERY_KIND,
     extreme: false,
@@ -150,7 +150,7 @@ const FILL_BUFFER: Phase = Phase {
         (Step::OutOfRange, 4),
         (Step::Garbled, 4),
     ],
-    fates: [1, 1, 4],
+    fates: [(0, 1), (1, 1), (2, 4)],
     away: 15,
     kinds: EVERY_KIND,
     extreme: false,
@@ -172,7 +172,7 @@ const FILL_ROWS: Phase = Phase {
         (Step::FlipStore, 2),
         (Step::Garbled, 4),
     ],
-    fates: [8, 2, 1],
+    fates: [(0, 8), (1, 2), (2, 1)],
     away: 0,
     kinds: EVERY_KIND,
     extreme: false,
@@ -191,7 +191,7 @@ const FILL_SLOTS: Phase = Phase {
         (Step::Worker, 20),
         (Step::FlipStore, 5),
     ],
-    fates: [1, 1, 1],
+    fates: [(0, 1), (1, 1), (2, 1)],
     away: 10,
     kinds: EVERY_KIND,
     extreme: false,
@@ -209,7 +209,7 @@ const FILL_CACHE: Phase = Phase {
         (Step::FlipStore, 40),
         (Step::Garbled, 4),
     ],
-    fates: [4, 1, 1],
+    fates: [(0, 4), (1, 1), (2, 1)],
     away: 20,
     kinds: EVERY_KIND,
     extreme: false,
@@ -231,7 +231,7 @@ const AWAY: Phase = Phase {
         (Step::FlipStore, 15),
         (Step::SetUp, 3),
     ],
-    fates: [3, 1, 1],
+    fates: [(0, 3), (1, 1), (2, 1)],
     away: 100,
     kinds: EVERY_KIND,
     extreme: false,
@@ -252,7 +252,7 @@ const LAPSES: Phase = Phase {
         (Step::Sweep, 10),
         (Step::FlipStore, 15),
     ],
-    fates: [4, 2, 1],
+    fates: [(0, 4), (1, 2), (2, 1)],
     away: 10,
     kinds: EVERY_KIND,
     extreme: false,
@@ -272,7 +272,7 @@ const WORKERS_OVERTAKEN: Phase = Phase {
         (Step::FlipStore, 10),
         (Step::Garbled, 4),
     ],
-    fates: [4, 3, 2],
+    fates: [(0, 4), (1, 3), (2, 2)],
     away: 0,
     kinds: EVERY_KIND,
     extreme: false,
@@ -290,7 +290,7 @@ const LISTS: Phase = Phase {
         (Step::Sweep, 10),
         (Step::FlipStore, 5),
     ],
-    fates: [5, 1, 1],
+    fates: [(0, 5), (1, 1), (2, 1)],
     away: 0,
     kinds: LIST_KINDS,
     extreme: false,
@@ -311,7 +311,7 @@ const EXTREMES: Phase = Phase {
         (Step::Garbled, 60),
         (Step::SetUp, 20),
     ],
-    fates: [5, 1, 1],
+    fates: [(0, 5), (1, 1), (2, 1)],
     away: 0,
     kinds: NUMBER_KINDS,
     extreme: true,
@@ -327,7 +327,7 @@ const DRAIN: Phase = Phase {
         (Step::Read, 40),
         (Step::Begin, 20),
     ],
-    fates: [12, 1, 1],
+    fates: [(0, 12), (1, 1), (2, 1)],
     away: 0,
     kinds: EVERY_KIND,
     extreme: false,
@@ -351,7 +351,7 @@ const STORM_AWAY: Phase = Phase {
         (Step::OutOfRange, 15),
         (Step::Garbled, 20),
     ],
-    fates: [2, 1, 3],
+    fates: [(0, 2), (1, 1), (2, 3)],
     away: 100,
     kinds: EVERY_KIND,
     extreme: false,
@@ -462,6 +462,36 @@ impl<W: Write> Generator<W> {
     fn call(&mut self, call: u8, numbers: &[i64]) -> io::Result<u8> {
         self.compose(call, numbers);
         self.send()
+    }
+
+    /// A new session; with eight slots taken, the one longest open is abandoned for it.
+    fn begin(&mut self) -> io::Result<i64> {
+        if self.call(3, &[])? == 10 {
+            let oldest = self.plant.sessions.iter().map(|session| session.number).min();
+            self.call(7, &[i64::from(oldest.unwrap_or(0))])?;
+            self.call(3, &[])?;
+        }
+        Ok(self.plant.next_number as i64 - 1)
+    }
+
+    /// Maps the key to the places.
+    fn map_to(&mut self, key: usize, places: &[u8]) -> io::Result<()> {
+        let mut numbers = [0; 10];
+        numbers[..2].copy_from_slice(&[key as i64, places.len() as i64]);
+        for (at, &place) in places.iter().enumerate() {
+            numbers[2 + 2 * at..4 + 2 * at].copy_from_slice(&[i64::from(place) / 4, i64::from(place) % 4]);
+        }
+        self.call(2, &numbers)?;
+        Ok(())
+    }
+
+    /// The session changes the place; session 0 stands for load.
+    fn change_place(&mut self, session: i64, place: u8, kind: u8, value: i64) -> io::Result<u8> {
+        let (document, field) = (i64::from(place) / 4, i64::from(place) % 4);
+        if session == 0 {
+            return self.call(1, &[document, field, i64::from(kind), value]);
+        }
+        self.call(5, &[session, document, field, i64::from(kind), value])
     }
 
     // Choosing numbers.
@@ -612,17 +642,6 @@ impl<W: Write> Generator<W> {
         self.worker
     }
 
-    fn weighted(&mut self, weights: &[u64]) -> usize {
-        let mut left = self.random.below(weights.iter().sum());
-        for (at, &weight) in weights.iter().enumerate() {
-            if left < weight {
-                return at;
-            }
-            left -= weight;
-        }
-        0
-    }
-
     // The mixed files.
 
     /// A set-up of its own for each file, then phases until the lines are used up.
@@ -636,13 +655,12 @@ impl<W: Write> Generator<W> {
         self.mixed_set_up(keys)?;
         while self.lines_left > 0 {
             let phase = phases[self.random.below(phases.len() as u64) as usize];
-            let steps: Vec<u64> = phase.steps.iter().map(|&(_, weight)| weight).collect();
             let near = !self.random.percent(phase.away);
             if near != self.plant.near {
                 self.call(14, &[i64::from(near)])?;
             }
             for _ in 0..self.random.between(30, 400) {
-                let step = phase.steps[self.weighted(&steps)].0;
+                let step = self.random.weighted(phase.steps);
                 self.step(step, phase)?;
             }
         }
@@ -662,9 +680,7 @@ impl<W: Write> Generator<W> {
             }
         }
         let mut order: Vec<usize> = (0..KEYS).collect();
-        for at in (1..KEYS).rev() {
-            order.swap(at, self.random.below(at as u64 + 1) as usize);
-        }
+        self.random.shuffle(&mut order);
         for &key in &order[..keys] {
             self.map(key as i64)?;
         }
@@ -825,7 +841,7 @@ impl<W: Write> Generator<W> {
         if self.call(9, &[worker])? != 0 {
             return Ok(());
         }
-        let fate = self.weighted(&phase.fates) as i64;
+        let fate = self.random.weighted(&phase.fates);
         self.call(10, &[worker, fate])?;
         if fate != 0 && self.random.percent(80) {
             self.call(10, &[worker, 0])?;
@@ -877,7 +893,7 @@ impl<W: Write> Generator<W> {
     fn worker_step(&mut self, phase: &Phase) -> io::Result<()> {
         let worker = self.some_worker();
         let hand = self.plant.hands[worker];
-        let fate = self.weighted(&phase.fates) as i64;
+        let fate = self.random.weighted(&phase.fates);
         let worker = worker as i64;
         let call = if self.random.percent(20) {
             self.random.pick(&[9, 10, 11])

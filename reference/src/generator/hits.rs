@@ -97,12 +97,11 @@ impl<W: Write> Generator<W> {
         self.hits_set_up()?;
         while self.lines_left > 0 {
             let (turns, near) = self.random.pick(&STRETCHES);
-            let weights: Vec<u64> = turns.iter().map(|&(_, weight)| weight).collect();
             if near != self.plant.near {
                 self.call(14, &[i64::from(near)])?;
             }
             for _ in 0..self.random.between(20, 200) {
-                let turn = turns[self.weighted(&weights)].0;
+                let turn = self.random.weighted(turns);
                 self.turn(turn)?;
             }
         }
@@ -115,36 +114,29 @@ impl<W: Write> Generator<W> {
         let keys = self.random.pick(&[17, 17, 18, 19, 20, 22, 24, 28, 32]);
         // How many of a hundred places are shared, in this file.
         let shared = self.random.pick(&[0, 5, 15, 40]);
-        let mut order: Vec<i64> = (0..KEYS as i64).collect();
-        for at in (1..KEYS).rev() {
-            order.swap(at, self.random.below(at as u64 + 1) as usize);
-        }
-        let mut used: Vec<(i64, i64)> = Vec::new();
+        let mut order: Vec<usize> = (0..KEYS).collect();
+        self.random.shuffle(&mut order);
+        let mut used: Vec<u8> = Vec::new();
         for &key in &order[..keys] {
             let count = self.random.pick(&[1, 2, 3, 4, 4]);
-            let mut places: Vec<(i64, i64)> = Vec::new();
+            let mut places: Vec<u8> = Vec::new();
             while places.len() < count {
-                let field = self.random.between(0, FIELDS as i64 - 1);
+                let field = self.random.below(FIELDS as u64) as u8;
                 let place = match self.random.percent(shared) {
                     true if !used.is_empty() && self.random.percent(50) => self.random.pick(&used),
-                    true => (self.random.between(60, 63), field),
-                    false => (2 * key + self.random.between(0, 1), field),
+                    true => self.random.between(60, 63) as u8 * FIELDS as u8 + field,
+                    false => (2 * key as u8 + self.random.below(2) as u8) * FIELDS as u8 + field,
                 };
                 if !places.contains(&place) {
                     places.push(place);
                 }
             }
-            let mut numbers = [0; 10];
-            numbers[..2].copy_from_slice(&[key, count as i64]);
-            for (at, &(document, field)) in places.iter().enumerate() {
-                numbers[2 + 2 * at..4 + 2 * at].copy_from_slice(&[document, field]);
-            }
-            self.call(2, &numbers)?;
+            self.map_to(key, &places)?;
             used.extend(places);
         }
         self.mapped = (0..KEYS).filter(|&key| self.plant.keys[key].count != 0).collect();
         self.gone = self.mapped.first().copied().unwrap_or(0);
-        self.documents = used.iter().map(|&(document, _)| document).collect();
+        self.documents = used.iter().map(|&place| i64::from(place) / 4).collect();
         for _ in 0..self.random.between(0, 60) {
             self.load(&ORDINARY)?;
         }
@@ -259,16 +251,6 @@ impl<W: Write> Generator<W> {
         Ok(())
     }
 
-    /// A new session; with eight slots taken, the one longest open is abandoned for it.
-    pub(super) fn begin(&mut self) -> io::Result<i64> {
-        if self.call(3, &[])? == 10 {
-            let oldest = self.plant.sessions.iter().map(|session| session.number).min();
-            self.call(7, &[i64::from(oldest.unwrap_or(0))])?;
-            self.call(3, &[])?;
-        }
-        Ok(self.plant.next_number as i64 - 1)
-    }
-
     /// Carries up to four buffered sessions. Seldom a worker waits for the queue lease, which lets sessions lapse.
     fn carry(&mut self) -> io::Result<()> {
         if self.random.one_in(20) {
@@ -289,7 +271,7 @@ impl<W: Write> Generator<W> {
             return Ok(());
         };
         let (kind, value) = self.fitting_change(slot, place, !self.plant.near);
-        self.call(5, &[session, i64::from(place) / 4, i64::from(place) % 4, i64::from(kind), value])?;
+        self.change_place(session, place, kind, value)?;
         Ok(())
     }
 

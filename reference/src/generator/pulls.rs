@@ -73,9 +73,8 @@ impl<W: Write> Generator<W> {
             let near = !self.random.one_in(4);
             let turns = if near { NEAR_TURNS } else { AWAY_TURNS };
             self.call(14, &[i64::from(near)])?;
-            let weights: Vec<u64> = turns.iter().map(|&(_, weight)| weight).collect();
             for _ in 0..self.random.between(10, 80) {
-                let turn = turns[self.weighted(&weights)].0;
+                let turn = self.random.weighted(turns);
                 self.pulls_turn(turn)?;
             }
         }
@@ -130,7 +129,8 @@ impl<W: Write> Generator<W> {
         }
         let keys = count + self.random.pick(&[0, 0, 4, 12, 24]);
         for key in 0..keys {
-            self.map_places(key as i64, count)?;
+            let places = self.key_places(key);
+            self.map_to(key, &places)?;
         }
         self.mapped = (0..keys).collect();
         for at in 0..count {
@@ -139,22 +139,16 @@ impl<W: Write> Generator<W> {
         Ok(())
     }
 
-    /// Maps the key to 1 to 4 places. The first is the next one in turn, so that each place has a key.
-    fn map_places(&mut self, key: i64, count: usize) -> io::Result<()> {
-        let mut places = vec![self.places[key as usize % count]];
+    /// 1 to 4 places for the key. The first is the next one in turn, so that each place has a key.
+    pub(super) fn key_places(&mut self, key: usize) -> Vec<u8> {
+        let mut places = vec![self.places[key % self.places.len()]];
         for _ in 1..self.random.between(1, KEY_PLACES as i64) {
             let place = self.random.pick(&self.places);
             if !places.contains(&place) {
                 places.push(place);
             }
         }
-        let mut numbers = [0; 10];
-        numbers[..2].copy_from_slice(&[key, places.len() as i64]);
-        for (at, &place) in places.iter().enumerate() {
-            numbers[2 + 2 * at..4 + 2 * at].copy_from_slice(&[i64::from(place) / 4, i64::from(place) % 4]);
-        }
-        self.call(2, &numbers)?;
-        Ok(())
+        places
     }
 
     /// Loads of one place: any changes, then a list and pulls of some of its members, or of all. Seldom the store is
@@ -182,14 +176,6 @@ impl<W: Write> Generator<W> {
     }
 
     // Changes of a place by a session; session 0 stands for load.
-
-    fn change_place(&mut self, session: i64, place: u8, kind: u8, value: i64) -> io::Result<u8> {
-        let (document, field) = (i64::from(place) / 4, i64::from(place) % 4);
-        if session == 0 {
-            return self.call(1, &[document, field, i64::from(kind), value]);
-        }
-        self.call(5, &[session, document, field, i64::from(kind), value])
-    }
 
     /// One change that the field calls for, or several pushes.
     fn change_list(&mut self, session: i64, place: u8) -> io::Result<()> {

@@ -31,9 +31,8 @@ impl<W: Write> Generator<W> {
     pub(super) fn sweeps(&mut self) -> io::Result<()> {
         self.open_end = self.random.one_in(4);
         self.sweeps_set_up()?;
-        let weights = ROUNDS.map(|(_, weight)| weight);
         while self.lines_left > 0 {
-            match ROUNDS[self.weighted(&weights)].0 {
+            match self.random.weighted(&ROUNDS) {
                 Round::Sweeps => self.sweeps_round()?,
                 Round::FullTable => self.full_table()?,
                 Round::Recovery => self.recovery()?,
@@ -146,9 +145,8 @@ impl<W: Write> Generator<W> {
     }
 
     fn overtaken(&mut self) -> io::Result<()> {
-        let weights: Vec<u64> = WORKERS_OVERTAKEN.steps.iter().map(|&(_, weight)| weight).collect();
         for _ in 0..self.random.between(10, 80) {
-            let step = WORKERS_OVERTAKEN.steps[self.weighted(&weights)].0;
+            let step = self.random.weighted(WORKERS_OVERTAKEN.steps);
             self.step(step, &WORKERS_OVERTAKEN)?;
         }
         Ok(())
@@ -169,15 +167,12 @@ impl<W: Write> Generator<W> {
             let place = self.documents[at] as u8 * FIELDS as u8 + self.random.below(FIELDS as u64) as u8;
             if let Some(slot) = self.slot_of(session) {
                 let (kind, value) = self.fitting_change(slot, place, !self.plant.near);
-                let (document, field) = (i64::from(place) / 4, i64::from(place) % 4);
-                self.call(5, &[session, document, field, i64::from(kind), value])?;
+                self.change_place(session, place, kind, value)?;
             }
             sessions.push(session);
         }
         if self.random.percent(75) {
-            for at in (1..sessions.len()).rev() {
-                sessions.swap(at, self.random.below(at as u64 + 1) as usize);
-            }
+            self.random.shuffle(&mut sessions);
         }
         let left_open = if self.random.one_in(4) { sessions.pop() } else { None };
         for session in sessions {
