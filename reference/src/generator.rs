@@ -11,6 +11,7 @@ use crate::lines::{answer, call_columns, number_count, write_number, CALLS, COLU
 use crate::plant::*;
 use crate::random::Random;
 
+mod away;
 mod hits;
 mod pulls;
 mod sweeps;
@@ -33,9 +34,15 @@ pub enum Profile {
     Sweeps,
     /// Lists with repeats, and pulls of what they have several times.
     Pulls,
+    /// Long spells without the store, and fields that little or nothing makes known.
+    Away,
 }
 
 impl Profile {
+    /// The profiles whose files have just the lines asked for: all but `late`.
+    pub const EXACT: [Profile; 7] =
+        [Profile::Mixed, Profile::Work, Profile::Storm, Profile::Hits, Profile::Sweeps, Profile::Pulls, Profile::Away];
+
     pub fn named(name: &str) -> Option<Profile> {
         match name {
             "mixed" => Some(Profile::Mixed),
@@ -45,6 +52,7 @@ impl Profile {
             "hits" => Some(Profile::Hits),
             "sweeps" => Some(Profile::Sweeps),
             "pulls" => Some(Profile::Pulls),
+            "away" => Some(Profile::Away),
             _ => None,
         }
     }
@@ -60,6 +68,7 @@ pub fn generate<W: Write>(to: W, seed: u64, count: u64, profile: Profile) -> io:
         Profile::Hits => generator.hits()?,
         Profile::Sweeps => generator.sweeps()?,
         Profile::Pulls => generator.pulls()?,
+        Profile::Away => generator.away()?,
         Profile::Late => {
             generator.approach_clock_end()?;
             generator.mixed(&MIXED_PHASES)?;
@@ -402,7 +411,7 @@ struct Generator<W: Write> {
     /// The key that left the cache last and the one read last, for the profile `hits`.
     gone: usize,
     read_last: usize,
-    /// The places that are lists and their values, for the profile `pulls`.
+    /// The places that calls prefer, for the profiles `pulls` and `away`, and the values for `pulls`.
     places: Vec<u8>,
     values: Vec<i64>,
     /// Whether the file's last line is left without its byte 10.

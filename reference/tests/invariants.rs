@@ -171,11 +171,15 @@ fn pulls_files() {
     (600..606).for_each(|seed| check_file(seed, 2_000, Profile::Pulls));
 }
 
+#[test]
+fn away_files() {
+    (700..706).for_each(|seed| check_file(seed, 2_000, Profile::Away));
+}
+
 /// The same seed gives the same file, another one another, each with as many lines as asked for.
 #[test]
 fn files_follow_from_their_seeds() {
-    let profiles = [Profile::Mixed, Profile::Work, Profile::Storm, Profile::Hits, Profile::Sweeps, Profile::Pulls];
-    for profile in profiles {
+    for profile in Profile::EXACT {
         let file = |seed: u64| {
             let mut file = Vec::new();
             generate(&mut file, seed, 500, profile).unwrap();

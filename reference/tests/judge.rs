@@ -844,8 +844,7 @@ fn replaced(answers: &[&[u8]], at: usize, answer: &[u8]) -> Vec<u8> {
 
 #[test]
 fn generated_files_are_held() {
-    let profiles = [Profile::Mixed, Profile::Work, Profile::Storm, Profile::Hits, Profile::Sweeps, Profile::Pulls];
-    for profile in profiles {
+    for profile in Profile::EXACT {
         for seed in 1..6 {
             let (calls, answers) = generated(seed, 5_000, profile);
             let held = judge(&calls, &answers).unwrap_or_else(|contradiction| panic!("{seed}: {contradiction}"));
@@ -868,6 +867,8 @@ fn each_tampered_number_is_refused() {
         (8, Profile::Sweeps),
         (9, Profile::Pulls),
         (10, Profile::Pulls),
+        (11, Profile::Away),
+        (12, Profile::Away),
     ];
     for (seed, profile) in files {
         let (calls, answers) = generated(seed, 700, profile);
@@ -898,7 +899,7 @@ fn each_tampered_number_is_refused() {
 /// In generated files each answer to a call of a terminal in form is replaced by each other refusal, one at a time.
 #[test]
 fn each_tampered_refusal_is_refused() {
-    for (seed, profile) in [(1, Profile::Mixed), (2, Profile::Storm), (3, Profile::Storm)] {
+    for (seed, profile) in [(1, Profile::Mixed), (2, Profile::Storm), (3, Profile::Away)] {
         let (calls, answers) = generated(seed, 500, profile);
         let answers_apart = apart(&answers);
         for (at, call) in apart(&calls).iter().enumerate() {

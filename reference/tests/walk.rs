@@ -6,6 +6,7 @@ mod common;
 use common::Desk;
 use reference_plant::field::{Change, SET, UNSET};
 use reference_plant::generator::{generate, Profile};
+use reference_plant::lines::{parse, Call};
 use reference_plant::plant::{Plant, PLACES};
 use reference_plant::walk::Finding;
 
@@ -248,7 +249,7 @@ fn newest_first(plant: &Plant, slot: usize) -> Vec<Change> {
 /// In generated files, for every place: the place of the first set or unset in that list, and what is known by it.
 #[test]
 fn in_generated_files_it_finds_the_first_in_the_list() {
-    for (seed, profile) in [(1, Profile::Mixed), (2, Profile::Storm), (3, Profile::Storm), (4, Profile::Work)] {
+    for (seed, profile) in [(1, Profile::Mixed), (2, Profile::Storm), (3, Profile::Work), (4, Profile::Away)] {
         let mut file = Vec::new();
         generate(&mut file, seed, 5_000, profile).unwrap();
         let mut desk = Desk::new();
@@ -269,5 +270,102 @@ fn in_generated_files_it_finds_the_first_in_the_list() {
                 assert_eq!(desk.plant.known(slot, place as u8), known);
             }
         }
+    }
+}
+
+/// What a line meets without the store: how a place is known that it needs, or why it is not.
+const CASES: [&str; 16] = [
+    "own",
+    "cached",
+    "newest",
+    "between",
+    "oldest",
+    "oldest with its row",
+    "first of 256 changes",
+    "first of 264 changes",
+    "own changes of other kinds",
+    "buffered changes of other kinds",
+    "another field of the document",
+    "nothing",
+    "one place unknown",
+    "all places unknown",
+    "set or unset unknown",
+    "told no longer",
+];
+
+fn how_known(plant: &Plant, slot: usize, place: u8) -> &'static str {
+    let own = plant.sessions[slot].changes();
+    let changes = newest_first(plant, slot);
+    let Finding { settled, looked_at } = plant.walk(slot, place);
+    let oldest = plant.buffered(0);
+    let newer: usize = (1..plant.buffer_count).map(|at| plant.buffered(at).changes().len()).sum();
+    match settled {
+        true if looked_at <= own.len() => "own",
+        _ if plant.shown[usize::from(place)] > 0 => "cached",
+        true if looked_at == 264 => "first of 264 changes",
+        true if looked_at >= 256 && looked_at == changes.len() => "first of 256 changes",
+        true if looked_at > own.len() + newer && plant.rows().contains(&oldest.number) => "oldest with its row",
+        true if looked_at > own.len() + newer => "oldest",
+        true if looked_at <= own.len() + plant.buffered(plant.buffer_count - 1).changes().len() => "newest",
+        true => "between",
+        false if own.iter().any(|change| change.place == place) => "own changes of other kinds",
+        false if changes.iter().any(|change| change.place == place) => "buffered changes of other kinds",
+        false if changes.iter().any(|change| change.place / 4 == place / 4) => "another field of the document",
+        false => "nothing",
+    }
+}
+
+/// The cases that the line is, if it was accepted or refused 20.
+fn cases(plant: &Plant, line: &[u8]) -> Vec<&'static str> {
+    let Some(Call { call: call @ (4 | 5 | 11), numbers }) = parse(line).ok().filter(|_| !plant.near) else {
+        return Vec::new();
+    };
+    if call == 11 {
+        let oldest = plant.buffered(0).changes();
+        return if oldest.iter().any(|change| how_known(plant, 0, change.place).starts_with("oldest with")) {
+            vec!["told no longer"]
+        } else {
+            Vec::new()
+        };
+    }
+    let Some(slot) = plant.sessions.iter().position(|slot| i64::from(slot.number) == numbers[0]) else {
+        return Vec::new();
+    };
+    let unknown = |place: &u8| !plant.known(slot, *place);
+    if call == 5 {
+        let place = (4 * numbers[1] + numbers[2]) as u8;
+        return match numbers[3] {
+            1 | 2 if unknown(&place) => vec!["set or unset unknown"],
+            1 | 2 => Vec::new(),
+            _ => vec![how_known(plant, slot, place)],
+        };
+    }
+    let places = plant.keys[numbers[1] as usize].places();
+    match places.iter().filter(|place| unknown(place)).count() {
+        0 => places.iter().map(|&place| how_known(plant, slot, place)).collect(),
+        1 if places.len() > 1 => vec!["one place unknown"],
+        count if count == places.len() => vec!["all places unknown"],
+        _ => Vec::new(),
+    }
+}
+
+/// In each file of the profile each case occurs, most of them often.
+#[test]
+fn the_profile_has_each_case() {
+    for seed in 1..=10 {
+        let mut file = Vec::new();
+        generate(&mut file, seed, 10_000, Profile::Away).unwrap();
+        let mut desk = Desk::new();
+        let mut counts = CASES.map(|case| (case, 0));
+        for line in file.split(|&byte| byte == b'\n') {
+            let before = desk.plant.clone();
+            if matches!(&desk.raw(line)[..2], b" 0" | b"20") {
+                for case in cases(&before, line) {
+                    counts.iter_mut().filter(|(name, _)| *name == case).for_each(|(_, count)| *count += 1);
+                }
+            }
+        }
+        assert!(counts.iter().all(|&(_, count)| count >= 5), "seed {seed}: {counts:?}");
+        assert!(counts.iter().filter(|&&(_, count)| count >= 50).count() >= 10, "seed {seed}: {counts:?}");
     }
 }

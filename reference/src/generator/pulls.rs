@@ -275,7 +275,7 @@ impl<W: Write> Generator<W> {
     }
 
     /// So many keys are read by the session that reads.
-    fn read_keys(&mut self, count: usize) -> io::Result<()> {
+    pub(super) fn read_keys(&mut self, count: usize) -> io::Result<()> {
         for _ in 0..count {
             let key = self.random.pick(&self.mapped);
             self.read_key(key)?;

@@ -186,7 +186,7 @@ impl<W: Write> Generator<W> {
     }
 
     /// The oldest buffered session comes into the hand of a worker that had none. Answers the worker.
-    fn take_oldest(&mut self) -> io::Result<i64> {
+    pub(super) fn take_oldest(&mut self) -> io::Result<i64> {
         while self.plant.buffer_count == 0 && self.lines_left > 0 {
             self.commit_some()?;
         }
