@@ -6,6 +6,7 @@ pub mod Laws
 pub mod Tests
 pub mod Accepts
 pub mod Steps
+pub mod Refused
 pub mod Slots
 pub mod KeptParts
 pub mod Buffer
@@ -49,4 +50,6 @@ pub mod AppliedOnce
 pub mod RowOrder
 -- a recalled lot leaves the tally whole
 pub mod Pulls
+-- look from the newest booking back
+pub mod Walks
 pub mod Theorem

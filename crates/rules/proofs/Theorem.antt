@@ -7,6 +7,7 @@ use Rattle.rules.specs.Histories.{histories}
 use Rattle.rules.specs.CacheRuns.{cache-runs}
 use Rattle.rules.specs.RowRuns.{row-runs}
 use Rattle.rules.specs.PullRuns.{pull-runs}
+use Rattle.rules.specs.WalkRuns.{walk-runs}
 use Rattle.rules.specs.Theorem.{Theorem}
 use Rattle.rules.proofs.Steps.{refusals-leave, three-ends, four-ends}
 use Rattle.rules.proofs.Sessionless.{spares-sessions}
@@ -20,6 +21,7 @@ use Rattle.rules.proofs.Answers.{answers-count}
 use Rattle.rules.proofs.CacheOrder.{in-read-order, oldest-gives-way, commit-caches-none, clock-leaves-order}
 use Rattle.rules.proofs.RowOrder.{rows-in-order, comes-when-applied, store-stays-else, applied-once, in-applied-order, oldest-rows-go}
 use Rattle.rules.proofs.Pulls.{one-without, pulls-all, load-pulls, change-pulls, reads-lack, store-lacks}
+use Rattle.rules.proofs.Walks.{walks-back, newest-first, finds, known-by-walk, seen-by-walk, walk-decides}
 
 pub theorem : Theorem
 theorem =
@@ -56,6 +58,12 @@ theorem =
       changePulls = change-pulls;
       readsLack = reads-lack;
       storeLacks = store-lacks;
+      walksBack = walks-back;
+      newestFirst = newest-first;
+      finds = finds;
+      knownByWalk = known-by-walk;
+      seenByWalk = seen-by-walk;
+      walkDecides = walk-decides;
       demand3 = demand3;
       edges = edges;
       paperRun = paper-run;
@@ -66,4 +74,5 @@ theorem =
       cacheRuns = cache-runs;
       rowRuns = row-runs;
       pullRuns = pull-runs;
+      walkRuns = walk-runs;
     }

@@ -10,7 +10,7 @@ use Rattle.rules.specs.Lists.{any, pushed}
 use Rattle.rules.specs.Limits.{lowest, highest}
 use Rattle.rules.specs.Refusals.{wrongKind, _⇒_}
 use Rattle.rules.specs.Values.{fits32, Place, absent, number, list}
-use Rattle.rules.specs.Changes.{Kind, set, unset, inc, add, push, pull, Update, becomes, fails, member, putLast, change, outcomeRefusal, fieldOf, meets, updated, fieldAfter, sets}
+use Rattle.rules.specs.Changes.{set, unset, inc, add, push, pull, Update, becomes, fails, member, putLast, change, outcomeRefusal, fieldOf, meets, updated, fieldAfter, sets}
 use Rattle.rules.specs.Tables.{documents, setup}
 use Rattle.rules.specs.Reading.{showsIt, seenAway}
 use Rattle.rules.specs.Calls.{arrives, lost, Call, Begin}
@@ -20,7 +20,7 @@ use Rattle.rules.specs.Step.{accepted, step}
 use Rattle.rules.specs.History.{emptyHistory, note, initial, exchanges}
 use Rattle.rules.specs.Claims.{shownTo}
 use Rattle.rules.specs.Pulls.{Without, Pulls, LoadPulls, ChangePulls, puts, Withdrawn, LacksAll, loadsOf, bookings, ReadsLack}
-use Rattle.rules.specs.Scenario.{Line, _gets_, yes, says, no, alone, after, Plays, load, pair, read, edit, commit, advance, takes, apply, near, origin, mapOrigin, mapOne, editOrigin, pushes}
+use Rattle.rules.specs.Scenario.{Line, _gets_, yes, says, no, alone, after, Plays, load, pair, read, edit, commit, advance, takes, apply, near, at, origin, elsewhere, mapOrigin, mapOne, editOrigin, pushes}
 use Rattle.rules.specs.Histories.{turnsOf, worldOf}
 
 -- lot 4 is booked twice at the origin, with 7 between; a load that is refused books nothing
@@ -60,12 +60,6 @@ sevenAlone = pos 2 ∷ pos 1 ∷ pos 7 ∷ replicate 29 (pos 0)
 
 abbrev pub noMembers : List ℤ
 noMembers = pos 2 ∷ pos 0 ∷ replicate 30 (pos 0)
-
-abbrev pub at : Place → Kind → ℤ → Update
-at q k v = record { at = q; kind = k; value = v }
-
-abbrev pub elsewhere : Place
-elsewhere = record { document = 0; field = 1 }
 
 abbrev pub four : List ℤ → List ℤ
 four l = pos 4 ∷ l

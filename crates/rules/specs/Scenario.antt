@@ -9,7 +9,7 @@ use Rattle.rules.specs.Lists.{bit, span}
 use Rattle.rules.specs.Limits.{placeLimit, wordsPerField}
 use Rattle.rules.specs.Refusals.{refusalNumber}
 use Rattle.rules.specs.Values.{Place}
-use Rattle.rules.specs.Changes.{Kind, set, push, kindNumber}
+use Rattle.rules.specs.Changes.{Kind, set, push, kindNumber, Update}
 use Rattle.rules.specs.Tables.{Plant, setup, withRows}
 use Rattle.rules.specs.Calls.{Pair, Fate, arrives, lost, fateNumber, Call, Load, Map, Begin, Read, Change, Commit, Advance, Take, Apply, Delete, Cut, Store, Report, Answer, refused, fine, Result}
 use Rattle.rules.specs.Step.{step}
@@ -105,6 +105,13 @@ near b = Store (pos (bit b))
 -- ── the place of most runs: document 0, field 0, shown by key 0 ──
 abbrev pub origin : Place
 origin = record { document = 0; field = 0 }
+
+-- another field of that document
+abbrev pub elsewhere : Place
+elsewhere = record { document = 0; field = 1 }
+
+abbrev pub at : Place → Kind → ℤ → Update
+at q k v = record { at = q; kind = k; value = v }
 
 abbrev pub mapOrigin : Call
 mapOrigin = mapOne 0 zeros

@@ -4,6 +4,7 @@ use Rattle.rules.specs.Claims.{RefusalsLeave, EndsSession, SparesSession
 use Rattle.rules.specs.CacheOrder.{InReadOrder, OldestGivesWay, CommitCachesNone, ClockLeavesOrder}
 use Rattle.rules.specs.RowOrder.{RowsInOrder, ComesWhenApplied, StoreStaysElse, AppliedOnce, InAppliedOrder, OldestRowsGo}
 use Rattle.rules.specs.Pulls.{OneWithout, PullsAll, LoadPulls, ChangePulls, ReadsLack, StoreLacks}
+use Rattle.rules.specs.Walks.{WalksBack, NewestFirst, Finds, KnownByWalk, SeenByWalk, WalkDecides}
 use Rattle.rules.specs.Demand3.{Demand3}
 use Rattle.rules.specs.Edges.{Edges, PaperRun}
 use Rattle.rules.specs.Runs.{Runs}
@@ -13,6 +14,7 @@ use Rattle.rules.specs.Histories.{Histories}
 use Rattle.rules.specs.CacheRuns.{CacheRuns}
 use Rattle.rules.specs.RowRuns.{RowRuns}
 use Rattle.rules.specs.PullRuns.{PullRuns}
+use Rattle.rules.specs.WalkRuns.{WalkRuns}
 
 pub record Theorem : Type 0 where
   -- demand 1
@@ -53,6 +55,13 @@ pub record Theorem : Type 0 where
   pub changePulls : ChangePulls
   pub readsLack : ReadsLack
   pub storeLacks : StoreLacks
+  -- look from the newest booking back
+  pub walksBack : WalksBack
+  pub newestFirst : NewestFirst
+  pub finds : Finds
+  pub knownByWalk : KnownByWalk
+  pub seenByWalk : SeenByWalk
+  pub walkDecides : WalkDecides
   -- demand 3
   pub demand3 : Demand3
   -- worked examples
@@ -65,3 +74,4 @@ pub record Theorem : Type 0 where
   pub cacheRuns : CacheRuns
   pub rowRuns : RowRuns
   pub pullRuns : PullRuns
+  pub walkRuns : WalkRuns
