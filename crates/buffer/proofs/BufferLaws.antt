@@ -1,14 +1,14 @@
 -- The buffer through its view: one law for each way out of a method.
-use Prim.Native.Nat.{ℕ, _+_, _<_, min}
+use Prim.Native.Nat.{ℕ, _+_, _-_, _≤_, _<_, min}
 use native.Mathlib.Omega.{arith}
 use mathlib.Core.Path.{_≡_, refl, sym, _∙_, ap}
-use mathlib.Core.Bool.{Bool, true, false, cond}
-use mathlib.Core.List.{List, [], _∷_, _++_, map}
-use lib.ListN.{length, getD, replicate, length-map}
+use mathlib.Core.Bool.{Bool, true}
+use mathlib.Core.List.{List, [], _∷_, map}
+use lib.ListN.{length, getD, replicate, drop, length-map}
 use lib.Seq.{take-all}
 use lib.Dec.{eqb, leb}
 use borrow.Author.Tests.{leb-true, leb-false, eq-eqb, ne-eqb}
-use Rattle.rules.specs.Lists.{has, any, from}
+use Rattle.rules.specs.Lists.{has, from}
 use Rattle.rules.specs.Values as S
 use Rattle.rules.specs.Changes as C
 use Rattle.rules.specs.Tables as M
@@ -41,6 +41,18 @@ pub oldest-is : (t : Buffer) (d : Batch) → length (t .batches) ≡ 32 → (t .
 unfolding viewBuffer viewBatch
 oldest-is t d l n = sym (ap M.oldest (counted-next viewBatch (t .count) (t .batches) d 0 (omega (arith, n)) (omega arith)))
 
+pub at-most : (t : Buffer) → length (t .batches) ≡ 32 → length (viewBuffer t) ≤ 32
+unfolding viewBuffer
+at-most t l = let m = counted-length viewBatch (t .count) (t .batches) 32 l in omega arith
+
+-- the sessions from one on are that one and those after it
+pub from-there : (t : Buffer) (d : Batch) {i : ℕ} → length (t .batches) ≡ 32 → (i ≡ 0 → ⊥) → i ≤ length (viewBuffer t) → drop (i - 1) (viewBuffer t) ≡ viewBatch (getD (t .batches) (i - 1) d) ∷ drop i (viewBuffer t)
+unfolding viewBuffer
+from-there t d {i} l some h =
+    let m = counted-length viewBatch (t .count) (t .batches) 32 l in
+    let e : (i - 1) + 1 ≡ i = omega (arith, some) in
+    counted-next viewBatch (t .count) (t .batches) d (i - 1) (omega (arith, some)) (omega (arith, some)) ∙ ap (λ k. viewBatch (getD (t .batches) (i - 1) d) ∷ drop k (viewBuffer t)) e
+
 -- ── all buffered changes ──
 run-pending : (rows : List ℕ) (l : List M.Batch) (q : S.Place) (f : S.Field) → C.run (M.changesIn (M.pending rows l)) q f ≡ fold (carry rows q) f l
 unfolding fold carry
@@ -56,14 +68,6 @@ none-pending (b ∷ l) = ap (λ r. b ∷ r) (none-pending l)
 
 pub run-none : (rows : List ℕ) (l : List M.Batch) (q : S.Place) (f : S.Field) {r : S.Field} → rows ≡ [] → r ≡ C.run (M.changesIn (M.pending rows l)) q f → r ≡ C.run (M.changesIn l) q f
 run-none rows l q f e h = h ∙ rw (e, none-pending l) refl
-
-any-append : (p : C.Update → Bool) (a b : List C.Update) → any p (a ++ b) ≡ cond (any p a) true (any p b)
-any-append p [] b = refl
-any-append p (x ∷ a) b = byCase (p x) (λ e. rw e) (λ e. rw e (any-append p a b))
-
-sets-any : (l : List M.Batch) (q : S.Place) → C.setsIt (M.changesIn l) q ≡ any (λ b. C.setsIt (b .changes) q) l
-sets-any [] q = refl
-sets-any (b ∷ l) q = any-append (C.sets q) (b .changes) (M.changesIn l) ∙ ap (cond (C.setsIt (b .changes) q) true) (sets-any l q)
 
 -- ── a loop over the entries in use: their number n, below which an index is one of the table, and the loop's start ──
 pub within : {i n : ℕ} (m : ℕ) → i < n → n ≡ min m 32 → i < 32
@@ -96,8 +100,5 @@ module _ (t : Buffer) {n : ℕ} (l : length (t .batches) ≡ 32) (e : n ≡ min 
   pub seek-used : {A : Type 0} {p : M.Batch → Bool} {g : M.Batch → A} {none : A} → Seeking viewBatch p g none n 32 (t .batches) (from p g none (viewBuffer t)) 0
   seek-used = rw used-view (seek-start l)
 
-  pub sets-used : (q : S.Place) → Seeking viewBatch (λ b. C.setsIt (b .changes) q) (λ b. true) false n 32 (t .batches) (C.setsIt (M.changesIn (viewBuffer t)) q) 0
-  sets-used q = rw (sets-any (viewBuffer t) q) seek-used
-
-  pub carry-used : (rows : List ℕ) (q : S.Place) (f : S.Field) → Working viewBatch (carry rows q) n 32 (t .batches) (C.run (M.changesIn (M.pending rows (viewBuffer t))) q f) f 0
-  carry-used rows q f = rw used-view (work-start l (run-pending rows (counted viewBatch n (t .batches)) q f))
+  pub carry-used : (from : ℕ) (rows : List ℕ) (q : S.Place) (f : S.Field) → Working viewBatch (carry rows q) n 32 (t .batches) (C.run (M.changesIn (M.pending rows (drop from (viewBuffer t)))) q f) f from
+  carry-used from rows q f = rw used-view (work-start l (run-pending rows (drop from (counted viewBatch n (t .batches))) q f))

@@ -5,10 +5,10 @@ ghost use Prim.Native.Nat.{min};
 ghost use mathlib.Core.Path.{_≡_};
 ghost use mathlib.Core.Bool.{true};
 ghost use mathlib.Core.List.{[]};
-ghost use lib.ListN.{length};
+ghost use lib.ListN.{length, drop};
 ghost use Rattle.rules.specs.Limits.{bufferLimit};
 ghost use Rattle.rules.specs.Lists.{isEmpty, pushed};
-ghost use Rattle.rules.specs.Changes.{run, setsIt};
+ghost use Rattle.rules.specs.Changes.{run};
 ghost use Rattle.rules.specs.Tables.{isBuffered, oldest, batchOf, unbuffer, pending, changesIn};
 ghost use Rattle.keys.specs.View.{viewPlace};
 ghost use Rattle.field.specs.View.{viewField, fieldForm};
@@ -143,29 +143,15 @@ impl Buffer {
         kept
     }
 
-    // Some buffered change sets or unsets the place.
-    pub fn sets(self, q: Place) -> bool
-        ensures { λ r. ⌜ r ≡ setsIt (changesIn (viewBuffer self)) (viewPlace q) ⌝ }
-    {
-        let count = used(self.count);
-        let mut i: usize = 0;
-        while i < count {
-            if self.batches[i].sets(q) {
-                return true;
-            }
-            i += 1;
-        }
-        false
-    }
-
-    // A place's field after those that the store does not have yet. The rows are asked here, because they are copied for each function between.
-    pub fn carried(self, rows: Rows, q: Place, f: Field) -> Field
-        ensures shows { λ r. ⌜ viewField r ≡ run (changesIn (pending (viewRows rows) (viewBuffer self))) (viewPlace q) (viewField f) ⌝ }
+    // A place's field after those, from the one that stands at `from` on, that the store does not have yet. The rows are asked here, because
+    // they are copied for each function between.
+    pub fn carried(self, from: u8, rows: Rows, q: Place, f: Field) -> Field
+        ensures shows { λ r. ⌜ viewField r ≡ run (changesIn (pending (viewRows rows) (drop from (viewBuffer self)))) (viewPlace q) (viewField f) ⌝ }
         ensures form { λ r. ⌜ (fieldForm f ≡ true → fieldForm r ≡ true) ⌝ }
     {
         let count = used(self.count);
         let mut now = f;
-        let mut i: usize = 0;
+        let mut i = from as usize;
         while i < count {
             let b = self.batches[i];
             let changes = b.changes;
@@ -179,12 +165,12 @@ impl Buffer {
         now
     }
 
-    // A place's field after all buffered changes: the store has none of them.
-    pub fn run(self, q: Place, f: Field) -> Field
-        ensures shows { λ r. ⌜ viewField r ≡ run (changesIn (viewBuffer self)) (viewPlace q) (viewField f) ⌝ }
+    // A place's field after all buffered changes from there on: the store has none of them.
+    pub fn run(self, from: u8, q: Place, f: Field) -> Field
+        ensures shows { λ r. ⌜ viewField r ≡ run (changesIn (drop from (viewBuffer self))) (viewPlace q) (viewField f) ⌝ }
         ensures form { λ r. ⌜ (fieldForm f ≡ true → fieldForm r ≡ true) ⌝ }
     {
         let none = Rows::empty();
-        self.carried(none, q, f)
+        self.carried(from, none, q, f)
     }
 }

@@ -1,8 +1,10 @@
 -- Changes through their views: one law for each way out of a method.
-use Prim.Native.Nat.{ℕ}
-use mathlib.Core.Path.{_≡_, refl, sym, _∙_}
+use Prim.Native.Nat.{ℕ, _≤_, _<_}
+use native.Mathlib.Omega.{arith}
+use mathlib.Core.Path.{_≡_, refl, sym, _∙_, ap}
 use mathlib.Core.Bool.{Bool, true, false, cond}
 use mathlib.Core.List.{List, [], _∷_}
+use lib.ListN.{length, getD, take, drop, drop-of-length-le}
 use lib.Dec.{eqb}
 use borrow.Author.Tests.{ne-eqb}
 use Rattle.rules.specs.Values as S
@@ -14,10 +16,12 @@ use Rattle.keys.specs.declared.Place.{Place}
 use Rattle.field.specs.View.{viewField}
 use Rattle.field.specs.declared.Field.{Field}
 use Rattle.lists.specs.Find.{fold}
+use Rattle.lists.proofs.Views.{counted-next, counted-length}
 use Rattle.lists.proofs.Forms.{form-empty}
-use Rattle.changes.specs.View.{viewUpdate}
+use Rattle.changes.specs.View.{viewUpdate, viewChanges}
 use Rattle.changes.specs.Form.{isUsed, isUnused, changesForm}
 use Rattle.changes.specs.declared.Update.{Update}
+use Rattle.changes.specs.declared.Changes.{Changes}
 
 -- which of the six numbers set or unset
 later : (b c d e : Bool) → C.isSet (cond b C.inc (cond c C.add (cond d C.push (cond e C.pull C.pull)))) ≡ false
@@ -60,6 +64,21 @@ pub run-fold : (cs : List C.Update) (q : S.Place) (f : S.Field) → C.run cs q f
 unfolding fold
 run-fold [] q f = refl
 run-fold (c ∷ cs) q f = run-fold cs q (C.fieldAfter q f c)
+
+-- ── the change at i, if there is one ──
+module _ (t : Changes) (i : ℕ) (q : S.Place) {n : ℕ} (few : n ≡ length (viewChanges t)) where
+  pub sets-past : n ≤ i → false ≡ C.setsIt (take 1 (drop i (viewChanges t))) q
+  sets-past h = let m : length (viewChanges t) ≤ i = omega arith in sym (ap (λ l. C.setsIt (take 1 l) q) (drop-of-length-le (viewChanges t) m))
+
+  pub sets-there : (d : Update) {r : Bool} → length (t .items) ≡ 8 → i < n → r ≡ C.sets q (viewUpdate (getD (t .items) i d)) → r ≡ C.setsIt (take 1 (drop i (viewChanges t))) q
+  unfolding viewChanges
+  sets-there d {r} l h e =
+      let m = counted-length viewUpdate (t .count) (t .items) 8 l in
+      e ∙ sym (ap (λ z. C.setsIt (take 1 z) q) (counted-next viewUpdate (t .count) (t .items) d i (omega arith) (omega arith)) ∙ itself (C.sets q (viewUpdate (getD (t .items) i d))))
+    where
+      itself : (b : Bool) → cond b true false ≡ b
+      itself true = refl
+      itself false = refl
 
 pub unused-is : (q : Place) → isBlank q ≡ true → isUnused (record { place = q; kind = 0; value = lib.IntN.pos 0 }) ≡ true
 unfolding isUnused

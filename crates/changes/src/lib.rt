@@ -1,8 +1,9 @@
 // One change of one place, and the changes of a session in their order.
+ghost use Prim.Native.Nat.{_≤_};
 ghost use mathlib.Core.Path.{_≡_};
 ghost use mathlib.Core.Bool.{true};
 ghost use mathlib.Core.List.{[]};
-ghost use lib.ListN.{length};
+ghost use lib.ListN.{length, take, drop};
 ghost use Rattle.rules.specs.Limits.{changeLimit};
 ghost use Rattle.rules.specs.Lists.{isEmpty, pushed};
 ghost use Rattle.rules.specs.Values.{samePlace};
@@ -100,7 +101,8 @@ impl Changes {
     }
 
     pub fn len(self) -> u8
-        ensures { λ r. ⌜ r ≡ length (viewChanges self) ⌝ }
+        ensures counts { λ r. ⌜ r ≡ length (viewChanges self) ⌝ }
+        ensures most { λ r. ⌜ r ≤ changeLimit ⌝ }
     {
         let n = self.count;
         if Self::LIMIT <= n as usize {
@@ -165,23 +167,15 @@ impl Changes {
         false
     }
 
-    // Some change sets or unsets the place.
-    pub fn sets(self, q: Place) -> bool
-        ensures { λ r. ⌜ r ≡ setsIt (viewChanges self) (viewPlace q) ⌝ }
+    // The change that stands at i sets or unsets the place, if there is one.
+    pub fn sets_at(self, i: u8, q: Place) -> bool
+        ensures { λ r. ⌜ r ≡ setsIt (take 1 (drop i (viewChanges self))) (viewPlace q) ⌝ }
     {
-        let count = self.count as usize;
-        let mut i: usize = 0;
-        while i < Self::LIMIT {
-            if count <= i {
-                return false;
-            }
-            let change = self.items[i];
-            if change.sets(q) {
-                return true;
-            }
-            i += 1;
+        if self.len() <= i {
+            return false;
         }
-        false
+        let change = self.items[i as usize];
+        change.sets(q)
     }
 
     // A place's field after all of them.

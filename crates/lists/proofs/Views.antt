@@ -267,18 +267,17 @@ module _ {A B : Type 0} {view : A → B} {g : B → B} {xs : List A} {k : ℕ} {
 -- ---- a loop that folds the entries; b is the view of what it has
 pub record Working {A B C : Type 0} (view : A → B) (f : C → B → C) (n k : ℕ) (xs : List A) (whole b : C) (i : ℕ) : Type 0 where
   pub long : length xs ≡ k
-  pub at : i ≤ k
   pub rest : whole ≡ fold f b (drop i (counted view n xs))
 
-pub work-start : {A B C : Type 0} {view : A → B} {f : C → B → C} {n k : ℕ} {xs : List A} {whole b : C} → length xs ≡ k → whole ≡ fold f b (counted view n xs) → Working view f n k xs whole b 0
-work-start l e = record { long = l; at = omega arith; rest = e }
+pub work-start : {A B C : Type 0} {view : A → B} {f : C → B → C} {n k : ℕ} {xs : List A} {whole b : C} {i : ℕ} → length xs ≡ k → whole ≡ fold f b (drop i (counted view n xs)) → Working view f n k xs whole b i
+work-start l e = record { long = l; rest = e }
 
 module _ {A B C : Type 0} {view : A → B} {f : C → B → C} {n k : ℕ} {xs : List A} {whole b : C} {i : ℕ} (inv : Working view f n k xs whole b i) where
   pub work-next : (d : A) {r : C} → i < k → i < n → r ≡ f b (view (getD xs i d)) → Working view f n k xs whole r (i + 1)
   unfolding fold
   work-next d h m e =
       let l : i < length xs = omega (arith, inv .long) in
-      record { long = inv .long; at = omega arith; rest = inv .rest ∙ simp (counted-next view n xs d i m l, e) }
+      record { long = inv .long; rest = inv .rest ∙ simp (counted-next view n xs d i m l, e) }
 
   pub work-end : n ≤ i → b ≡ whole
   unfolding fold

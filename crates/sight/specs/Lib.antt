@@ -1,4 +1,4 @@
 -- A place's value, and the tables it is found in.
 pub mod Value
 pub mod Sight
-pub mod Shown
+pub mod walk

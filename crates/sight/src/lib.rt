@@ -1,4 +1,6 @@
 // What a session sees at a place, and whether it is known. While the store is away nothing here reads it.
+pub mod walk;
+
 ghost use mathlib.Core.Path.{_≡_};
 ghost use mathlib.Core.Bool.{true, _||_};
 ghost use Rattle.rules.specs.Changes.{run};
@@ -11,7 +13,6 @@ ghost use Rattle.rows.specs.View.{viewRows};
 ghost use Rattle.buffer.specs.View.{viewBuffer};
 ghost use Rattle.cache.specs.View.{viewCache};
 ghost use Rattle.cache.specs.Form.{cacheForm};
-ghost use Rattle.sight.specs.Shown.{shownAway};
 ghost use Rattle.store.specs.View.{viewStore, storeForm};
 ghost use Rattle.sight.specs.Value.{valueBy};
 use buffer::Buffer;
@@ -29,45 +30,33 @@ pub fn seen(stored: Field, rows: Rows, buffer: Buffer, own: Changes, q: Place) -
     ensures shows { λ r. ⌜ viewField r ≡ run (viewChanges own) (viewPlace q) (run (changesIn (pending (viewRows rows) (viewBuffer buffer))) (viewPlace q) (viewField stored)) ⌝ }
     ensures form { λ r. ⌜ (fieldForm stored ≡ true → fieldForm r ≡ true) ⌝ }
 {
-    let now = buffer.carried(rows, q, stored);
+    let now = buffer.carried(0, rows, q, stored);
     own.run(q, now)
 }
 
-// Can it be found without the store?
+// Can it be found without the store? A cached key shows it, or a buffered or own change sets or unsets it.
 pub fn known_away(keys: Keys, cache: Cache, buffer: Buffer, own: Changes, q: Place) -> bool
     ensures { λ r. ⌜ r ≡ knownAway (viewKeys keys) (viewCache cache) (viewBuffer buffer) (viewChanges own) (viewPlace q) ⌝ }
 {
     if cache.shows(keys, q) {
         return true;
     }
-    if buffer.sets(q) {
-        return true;
-    }
-    own.sets(q)
+    let w = walk::back(buffer, own, q);
+    w.found
 }
 
-// What the buffer shows by itself, else a cached key.
-fn shown_away(keys: Keys, cache: Cache, buffer: Buffer, q: Place) -> Field
-    ensures shows { λ r. ⌜ viewField r ≡ shownAway (viewKeys keys) (viewCache cache) (viewBuffer buffer) (viewPlace q) ⌝ }
-    ensures form { λ r. ⌜ (cacheForm cache ≡ true → fieldForm r ≡ true) ⌝ }
-{
-    if buffer.sets(q) {
-        let absent = Field::empty();
-        return buffer.run(q, absent);
-    }
-    cache.field(keys, q)
-}
-
-// What a session sees where it is known, found without the store.
+// What a session sees where it is known, found without the store: worked out from the session on in which the walk stopped, else from a cached key's field.
 pub fn seen_away(keys: Keys, cache: Cache, buffer: Buffer, own: Changes, q: Place) -> Field
     ensures shows { λ r. ⌜ viewField r ≡ seenAway (viewKeys keys) (viewCache cache) (viewBuffer buffer) (viewChanges own) (viewPlace q) ⌝ }
     ensures form { λ r. ⌜ (cacheForm cache ≡ true → fieldForm r ≡ true) ⌝ }
 {
-    if own.sets(q) {
+    let w = walk::back(buffer, own, q);
+    if w.found {
         let absent = Field::empty();
-        return own.run(q, absent);
+        let shown = buffer.run(w.from, q, absent);
+        return own.run(q, shown);
     }
-    let shown = shown_away(keys, cache, buffer, q);
+    let shown = cache.field(keys, q);
     own.run(q, shown)
 }
 

@@ -4,6 +4,7 @@ use Prim.Native.Nat.{_-_, _+_}
 use mathlib.Core.Path.{_≡_, sym, subst}
 use mathlib.Core.Bool.{true}
 use mathlib.Core.Logic.{⊎-elim}
+use lib.ListN.{drop}
 use Rattle.rules.specs.Tables as M
 use Rattle.rules.specs.Changes as C
 use Rattle.keys.specs.View.{viewPlace}
@@ -20,12 +21,12 @@ use Rattle.buffer.proofs.Buffer.carried.Statement.{statement}
 use Rattle.buffer.proofs.Buffer.carried.Tie as tie
 
 abbrev Inv-loop : tie.InvT-loop
-Inv-loop rows q self count now₀ i₀ now i =
-    Working viewBatch (carry (viewRows rows) (viewPlace q)) count 32 (self .batches) (C.run (M.changesIn (M.pending (viewRows rows) (viewBuffer self))) (viewPlace q) (viewField now₀)) (viewField now) i
+Inv-loop from rows q self count now₀ i₀ now i =
+    Working viewBatch (carry (viewRows rows) (viewPlace q)) count 32 (self .batches) (C.run (M.changesIn (M.pending (viewRows rows) (drop from (viewBuffer self)))) (viewPlace q) (viewField now₀)) (viewField now) i
     × (fieldForm now₀ ≡ true → fieldForm now ≡ true)
 
 abbrev μ-loop : tie.MeasureT-loop
-μ-loop rows q self count now₀ i₀ now i = count - i
+μ-loop from rows q self count now₀ i₀ now i = count - i
 
 used-requires : tie.Need-used-requires Inv-loop μ-loop
 used-requires c κs = search needs
@@ -56,7 +57,7 @@ loop-less c = search needs
 
 -- what is left to go on with, where the field is g now
 abbrev Next : tie.Joined1 Inv-loop μ-loop → Field → Type 0
-Next c g = Inv-loop (c .before .before .before .before .before .before .before .args .rows) (c .before .before .before .before .before .before .before .args .q) (c .before .before .before .before .before .before .before .args .t1) (c .before .before .before .before .before .before .used .result) (c .before .before .before .before .before .before .before .args .f) 0 g (c .before .before .before .before .before .loop .i + 1)
+Next c g = Inv-loop (c .before .before .before .before .before .before .before .args .from) (c .before .before .before .before .before .before .before .args .rows) (c .before .before .before .before .before .before .before .args .q) (c .before .before .before .before .before .before .before .args .t1) (c .before .before .before .before .before .before .used .result) (c .before .before .before .before .before .before .before .args .f) 0 g (c .before .before .before .before .before .loop .i + 1)
 
 loop-again : tie.Need-loop-again Inv-loop μ-loop
 loop-again c =

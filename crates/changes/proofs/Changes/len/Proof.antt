@@ -14,11 +14,11 @@ cast-result c = search needs
 
 returns : tie.Need-returns
 unfolding viewChanges
-returns c = search (counted-full, length-mapped, needs)
+returns c = (search (counted-full, length-mapped, needs), search needs)
 
 returns-2 : tie.Need-returns-2
 unfolding viewChanges
-returns-2 c = search (counted-few, length-mapped, needs)
+returns-2 c = (search (counted-few, length-mapped, needs), search needs)
 
 pub len-spec : {M : Type 1} → statement M
 len-spec = tie.close (tie.spec cast-if1 cast-result returns returns-2)

@@ -1,0 +1,2 @@
+-- Laws of the walk from the newest change back.
+pub mod WalkLaws

@@ -1,0 +1,2 @@
+-- The walk as the rules see it.
+pub mod View
