@@ -11,3 +11,4 @@ pub mod Equal
 pub mod CacheOrder
 pub mod RowOrder
 pub mod Pulls
+pub mod Walks
