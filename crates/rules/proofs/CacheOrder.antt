@@ -1,7 +1,7 @@
 -- The cached keys stand in the order of the reads that cached them, and of sixteen the first gives way.
 use Prim.Native.Nat.{◌+◌, ◌≤◌, ℕ}
 use mathlib.Core.Path.{◌∙◌, ◌≡◌, ap, refl, subst, sym}
-use mathlib.Core.Bool.{Bool, false, not, true, true≢false}
+use mathlib.Core.Bool.{Bool, cond, false, not, true, true≢false}
 use mathlib.Core.Option.{Option, none, some}
 use mathlib.Core.List.{List, [], ◌++◌, ◌∷◌, map-append}
 use lib.ListN.{drop, length}
@@ -35,8 +35,8 @@ evicted_order : (l : List Cached) → Once (keys_of l) → InOrder (keys_of (evi
 evicted_order [] o = refl
 evicted_order (c ∷ l) o =
     by_case (leb cache_limit (length (c ∷ l)))
-    (λ t. rw t (in_order_cons c.key (keys_of l) (keys_of l) o.0 (in_order_self (keys_of l))))
-    (λ t. rw t (in_order_self (keys_of (c ∷ l))))
+    (λ t. subst (λ b. InOrder (keys_of (cond b l (c ∷ l))) (keys_of (c ∷ l))) (sym t) (in_order_cons c.key (keys_of l) (keys_of l) o.0 (in_order_self (keys_of l))))
+    (λ t. subst (λ b. InOrder (keys_of (cond b l (c ∷ l))) (keys_of (c ∷ l))) (sym t) (in_order_self (keys_of (c ∷ l))))
 
 -- a key that is cached now stands last
 last_key : {k : ℕ} {before after : List Cached} → CachesLast k before after → keys_of after ≡ keys_of (evicted before) ++ (k ∷ [])

@@ -1,6 +1,6 @@
 -- A list of numbers that stands in the order of another: what is left of it, and one more at the end.
 use Prim.Native.Nat.{ℕ}
-use mathlib.Core.Path.{◌∙◌, ◌≡◌, ap, refl, sym}
+use mathlib.Core.Path.{◌∙◌, ◌≡◌, ap, refl, subst, sym}
 use mathlib.Core.Bool.{Bool, ◌&&◌, cond, false, not, true, true≢false}
 use mathlib.Core.List.{List, [], ◌++◌, ◌∷◌, map}
 use lib.Dec.{eqb}
@@ -90,8 +90,8 @@ module _ {A : Type 0} (g : A → ℕ) where
   in_order_keep f [] o = refl
   in_order_keep f (a ∷ l) o =
       by_case (f a)
-      (λ t. rw t (in_order_both (g a) (map g (keep f l)) (map g l) o.0 (in_order_keep f l o.1)))
-      (λ t. rw t (in_order_cons (g a) (map g (keep f l)) (map g l) (has-map-keep (g a) g f l o.0) (in_order_keep f l o.1)))
+      (λ t. subst (λ b. InOrder (map g (cond b (a ∷ keep f l) (keep f l))) (map g (a ∷ l))) (sym t) (in_order_both (g a) (map g (keep f l)) (map g l) o.0 (in_order_keep f l o.1)))
+      (λ t. subst (λ b. InOrder (map g (cond b (a ∷ keep f l) (keep f l))) (map g (a ∷ l))) (sym t) (in_order_cons (g a) (map g (keep f l)) (map g l) (has-map-keep (g a) g f l o.0) (in_order_keep f l o.1)))
 
 -- one more at the end of both
 pub in_order_last : (k : ℕ) (l m : List ℕ) → has k l ≡ false → InOrder l m → InOrder (l ++ (k ∷ [])) (without k m ++ (k ∷ []))

@@ -1,8 +1,8 @@
 -- What a sweep takes: the first rows that may go, and what is left of the rows without them.
 use Prim.Native.Nat.{◌+◌, suc, zero, ℕ}
 use native.Mathlib.Omega.{arith}
-use mathlib.Core.Path.{◌∙◌, ◌≡◌, ap, refl, sym}
-use mathlib.Core.Bool.{Bool, false, not, true, true≢false}
+use mathlib.Core.Path.{◌∙◌, ◌≡◌, ap, refl, subst, sym}
+use mathlib.Core.Bool.{Bool, cond, false, not, true, true≢false}
 use mathlib.Core.Logic.{◌⊎◌}
 use mathlib.Core.List.{List, [], ◌++◌, ◌∷◌, map}
 use lib.ListN.{length, length-append, take}
@@ -47,7 +47,7 @@ parted f (suc n) (x ∷ l) o = by_case (f x) (λ t. passes t (parted f n l o.1))
           first = x ∷ r.first;
           rest = r.rest;
           split = ap (λ z. x ∷ z) r.split;
-          left = rw (t, self x) (keep_same _ _ l other ∙ r.left);
+          left = subst (λ b. keep (λ m. not (has m (take (suc n) (cond b (x ∷ keep f l) (keep f l))))) (x ∷ l) ≡ keep (λ m. not (f m)) (x ∷ r.first) ++ r.rest) (sym t) (rw (t, self x) (keep_same _ _ l other ∙ r.left));
           gone = rw t (ap suc r.gone);
         }
       where
@@ -60,7 +60,7 @@ parted f (suc n) (x ∷ l) o = by_case (f x) (λ t. passes t (parted f n l o.1))
           first = x ∷ r.first;
           rest = r.rest;
           split = ap (λ z. x ∷ z) r.split;
-          left = rw (t, not_swept f x (take (suc n) (keep f l)) (all_take f (suc n) (keep f l) (all_kept f l)) t) (ap (λ z. x ∷ z) r.left);
+          left = subst (λ b. keep (λ m. not (has m (take (suc n) (cond b (x ∷ keep f l) (keep f l))))) (x ∷ l) ≡ keep (λ m. not (f m)) (x ∷ r.first) ++ r.rest) (sym t) (rw (t, not_swept f x (take (suc n) (keep f l)) (all_take f (suc n) (keep f l) (all_kept f l)) t) (ap (λ z. x ∷ z) r.left));
           gone = rw t r.gone;
         }
 
