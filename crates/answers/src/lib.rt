@@ -4,7 +4,7 @@ ghost use Rattle.rules.specs.Refusals.{refusal_number, ends_session};
 ghost use Rattle.rules.specs.Calls.{mark_number, reply_number};
 ghost use Rattle.answers.specs.View.{view_refusal, view_mark, view_reply, view_answer, is_refused, is_ending};
 
-#[derive(Drop)]
+#[derive(Clone, Copy)]
 pub enum Refusal {
     OutOfRange = 1,
     NoSlot = 2,
@@ -32,7 +32,7 @@ pub enum Refusal {
 }
 
 // Where a read's fields came from: the cache; worked out and cached now; worked out, with a change of the session's own.
-#[derive(Drop)]
+#[derive(Clone, Copy)]
 pub enum Mark {
     FromCache,
     CachedNow,
@@ -40,14 +40,14 @@ pub enum Mark {
 }
 
 // What a worker hears of its apply.
-#[derive(Drop)]
+#[derive(Clone, Copy)]
 pub enum Reply {
     NoWord,
     Done,
     DoneBefore,
 }
 
-#[derive(Drop)]
+#[derive(Clone, Copy)]
 pub enum Answer {
     Refused(Refusal),
     // load, map, abandon, cut, store

@@ -12,7 +12,7 @@ ghost use Rattle.arguments.specs.places.View.{pairs, view_places, has_stray, key
 use keys::{Key, Place};
 
 // The places of a map's four pairs, those in use first.
-#[derive(Drop)]
+#[derive(Clone, Copy)]
 pub struct Places {
     pub first: Place,
     pub second: Place,

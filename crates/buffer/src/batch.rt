@@ -5,7 +5,7 @@ ghost use Rattle.buffer.specs.batch.Form.{is_unused};
 use changes::Changes;
 
 // A committed session: its number and its changes.
-#[derive(Drop)]
+#[derive(Clone, Copy)]
 pub struct Batch {
     pub number: u32,
     pub changes: Changes,

@@ -33,7 +33,7 @@ fn used(count: u8) -> usize
     n
 }
 
-#[derive(Drop)]
+#[derive(Clone, Copy)]
 pub struct Buffer {
     pub count: u8,
     pub batches: [Batch; Buffer::LIMIT],

@@ -12,7 +12,7 @@ use field::Field;
 use keys::{Key, Keys, Place};
 
 // A key's number, with the fields of its places.
-#[derive(Drop)]
+#[derive(Clone, Copy)]
 pub struct Cached {
     pub key: u8,
     pub count: u8,

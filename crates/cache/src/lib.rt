@@ -22,7 +22,7 @@ use field::Field;
 use keys::{Keys, Place};
 
 // The cached keys, in the order in which they came.
-#[derive(Drop)]
+#[derive(Clone, Copy)]
 pub struct Cache {
     pub count: u8,
     pub entries: [Cached; Cache::LIMIT],

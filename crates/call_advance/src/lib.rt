@@ -61,7 +61,7 @@ pub fn answer(p: Plant, ticks: i64) -> Answer
 }
 
 // The tables that the call writes, as it leaves them.
-#[derive(Drop)]
+#[derive(Clone, Copy)]
 pub struct Left {
     pub cache: Cache,
     pub sessions: Sessions,

@@ -39,7 +39,7 @@ pub fn answer(p: Plant) -> Answer
 }
 
 // The tables that the call writes, as it leaves them.
-#[derive(Drop)]
+#[derive(Clone, Copy)]
 pub struct Left {
     pub sessions: Sessions,
     pub next: u64,

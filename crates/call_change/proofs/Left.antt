@@ -1,5 +1,5 @@
 -- The plant that change leaves.
-use mathlib.Core.Path.{◌≡◌, refl, sym, ◌∙◌, ap}
+use mathlib.Core.Path.{◌≡◌, refl, sym, ◌∙◌, ap, subst}
 use mathlib.Core.Bool.{true, false, not, cond, ◌&&◌, true≢false}
 use mathlib.Core.List.{List}
 use Prim.Native.Nat.{ℕ}
@@ -58,7 +58,7 @@ module _ (p : Plant) (z d f k v : ℤ) (fd : SFits w64 d) (ff : SFits w64 f) (fk
         let g = was_good lent m in
         let i : M.is_slot z (view_sessions p.sessions) ≡ true = not-false _ (not_met _ no_slot m.1.0) in
         let q : nat_of z ≡ n = number_is (view_plant p) (kept_parts p kept) z fz n e (sym (slot_is (view_plant p) (kept_parts p kept) z fz n e) ∙ i) in
-        let l : (M.session n (view_sessions p.sessions)).doomed ≡ false = rw q at (not_met _ was_doomed m.1.1.0) in
+        let l : (M.session n (view_sessions p.sessions)).doomed ≡ false = subst (λ i. (M.session i (view_sessions p.sessions)).doomed ≡ false) q (not_met _ was_doomed m.1.1.0) in
         rw (et, in_stock g, grant_kept n (kept_parts p kept).slots l (view_update c), update_is d f k v fd ff fk fv c ec g, q) refl
         ∙ left_accepted (Change z d f k v) lent (view_plant p) m
 

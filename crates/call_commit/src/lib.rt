@@ -54,7 +54,7 @@ pub fn answer(p: Plant, session: i64) -> Answer
 }
 
 // The tables that the call writes, as it leaves them.
-#[derive(Drop)]
+#[derive(Clone, Copy)]
 pub struct Left {
     pub buffer: Buffer,
     pub cache: Cache,

@@ -22,7 +22,7 @@ pub fn answer(p: Plant, worker: i64) -> Answer
 }
 
 // The tables that the call writes, as it leaves them.
-#[derive(Drop)]
+#[derive(Clone, Copy)]
 pub struct Left {
     pub hands: Hands,
     pub queue: Queue,

@@ -18,7 +18,7 @@ use plant::Plant;
 use sessions::Sessions;
 
 // What a read answers, and what it shows where it is not refused.
-#[derive(Drop)]
+#[derive(Clone, Copy)]
 pub struct Seen {
     pub answer: Answer,
     pub shown: Marked,
@@ -68,7 +68,7 @@ pub fn found(p: Plant, session: i64, key: i64, lent: usize) -> Seen
 }
 
 // The tables that the call writes, as it leaves them.
-#[derive(Drop)]
+#[derive(Clone, Copy)]
 pub struct Left {
     pub cache: Cache,
     pub sessions: Sessions,

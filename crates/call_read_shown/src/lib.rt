@@ -30,7 +30,7 @@ use sessions::Sessions;
 use store::Store;
 
 // What a read shows, and where it comes from.
-#[derive(Drop)]
+#[derive(Clone, Copy)]
 pub struct Marked {
     pub mark: Mark,
     pub fields: Cached,

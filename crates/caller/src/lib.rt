@@ -13,7 +13,7 @@ use sessions::Sessions;
 use sessions::session::Session;
 
 // A session that makes a call, and the refusal that it meets by conditions 2 and 3, or `Done` where there is none.
-#[derive(Drop)]
+#[derive(Clone, Copy)]
 pub struct Caller {
     pub refusal: Answer,
     pub session: Session,

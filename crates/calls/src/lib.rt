@@ -4,7 +4,7 @@ ghost use Rattle.std.specs.Prelude.{◌≡◌, [], length};
 ghost use Rattle.rules.specs.Lists.{pushed};
 ghost use Rattle.calls.specs.View.{view_calls, list_limit};
 
-#[derive(Drop)]
+#[derive(Clone, Copy)]
 pub enum Call {
     // document, field, change, value
     Load(i64, i64, i64, i64),
@@ -37,13 +37,13 @@ pub enum Call {
 }
 
 // A call of a list, because a field cannot be an array of enums.
-#[derive(Drop)]
+#[derive(Clone, Copy)]
 pub struct Item {
     pub call: Call,
 }
 
 // Calls one after the other: the first `count`.
-#[derive(Drop)]
+#[derive(Clone, Copy)]
 pub struct Calls {
     pub items: [Item; Calls::LIMIT],
     pub count: u8,

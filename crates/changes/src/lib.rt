@@ -14,7 +14,7 @@ use field::Field;
 use keys::{Key, Place};
 
 // A change: its place, the number of its kind and its value.
-#[derive(Drop)]
+#[derive(Clone, Copy)]
 pub struct Update {
     pub place: Place,
     pub kind: u8,
@@ -78,7 +78,7 @@ impl Update {
 }
 
 // The changes of a session, oldest first.
-#[derive(Drop)]
+#[derive(Clone, Copy)]
 pub struct Changes {
     pub count: u8,
     pub items: [Update; Changes::LIMIT],

@@ -2,7 +2,7 @@
 use Prim.Native.Nat.{◌%◌, ◌*◌, ◌+◌, ◌-◌, ◌/◌, ◌<◌, ◌^◌, ◌≤◌, suc, zero, ℕ}
 use native.Mathlib.Nat.{div-eq_of_lt, lt_of_lt_of_le, one-mul, pow-suc, zero-add}
 use native.Mathlib.Omega.{arith}
-use mathlib.Core.Path.{◌≡◌, ◌∙◌, ap, fun_ext, refl, sym}
+use mathlib.Core.Path.{◌≡◌, ◌∙◌, ap, fun_ext, refl, subst, sym}
 use mathlib.Core.Bool.{Bool, ◌||◌, cond, false, not, true, true≢false}
 use lib.Bits.{bit_or, bit_xor, or_mod, or_shr, xor_mod, xor_shr}
 use lib.Count.{ones, ones-le, ones_step, trailing_le, count_trailing_zeros}
@@ -146,8 +146,9 @@ zeros_from s d zero = refl
 zeros_from s d (suc k) =
     let next = zeros_from s (d + 1) k in
     let e : d + suc k ≡ d + 1 + k = omega arith in
-    rw (shr-shr s d 1, e)
-    (by_digit (s / 2 ^ d) (λ z. rw z (omega arith)) (λ z. rw z (omega arith)))
+    subst (λ n. d + count_trailing_zeros (suc k) (s / 2 ^ d) ≡ from (docs s) (λ e. e) n (span d (suc k))) (sym e)
+    (rw (shr-shr s d 1)
+    (by_digit (s / 2 ^ d) (λ z. rw z (omega arith)) (λ z. rw z (omega arith))))
 
 pub lowest_is : (s : ℕ) → count_trailing_zeros 64 s ≡ from (docs s) (λ e. e) document_count documents
 unfolding documents

@@ -14,7 +14,7 @@ use calls::{Call, Calls};
 use plant::Plant;
 
 // What a call answered, and how many words it shows, of those lent to it.
-#[derive(Drop)]
+#[derive(Clone, Copy)]
 pub struct Told {
     pub answer: Answer,
     pub shown: usize,
@@ -22,7 +22,7 @@ pub struct Told {
 
 // The plant that calls leave, and what they were told, in their order: the first `count`. The count stands between the two, because the compiler
 // then moves the plant by itself, and half as often.
-#[derive(Drop)]
+#[derive(Clone, Copy)]
 pub struct Outcomes {
     pub plant: Plant,
     pub count: usize,
@@ -173,7 +173,7 @@ pub fn run_all(mut p: Plant, calls: Calls, share: usize, words: &mut [i32]) -> O
     }
 }
 
-#[derive(Drop)]
+#[derive(Clone, Copy)]
 pub struct Outcome {
     pub answer: Answer,
     pub plant: Plant,

@@ -7,7 +7,7 @@ use libc::STDOUT_FILENO;
 use line_server::Server;
 
 // How many of the bytes that have come are the first of the answers, and whether all are.
-#[derive(Drop)]
+#[derive(Clone, Copy)]
 struct Match {
     at: usize,
     same: bool,

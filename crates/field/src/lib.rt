@@ -9,7 +9,7 @@ ghost use Rattle.field.specs.View.{view_field, view_applied, field_form, Exact, 
 
 // Absent (count 0), a number (count 1) or a list of count values. Values that do not count are 0.
 // Every method holds of other fields too, as the view reads them.
-#[derive(Drop)]
+#[derive(Clone, Copy)]
 pub struct Field {
     pub kind: u8,
     pub count: u8,
@@ -17,7 +17,7 @@ pub struct Field {
 }
 
 // What a change answers: its refusal, and the field that it leaves, which a refusal leaves as it was.
-#[derive(Drop)]
+#[derive(Clone, Copy)]
 pub struct Applied {
     pub refusal: u8,
     pub field: Field,

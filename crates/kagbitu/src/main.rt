@@ -89,7 +89,7 @@ fn finish(server: Server, read: Transfer, out: &mut [u8]) -> usize
 }
 
 // What is left of a turn that serves: the server, and what of the piece is still unused.
-#[derive(Drop)]
+#[derive(Clone, Copy)]
 struct Turn {
     server: Server,
     part: Part,

@@ -5,7 +5,7 @@ ghost use Rattle.kagbitu.specs.Transfer.{transfer_of};
 use libc::{EAGAIN, EINTR};
 
 // So many bytes moved, at most as many as were lent; none, at the end of input; none yet, so that the same is asked again; or it failed.
-#[derive(Drop)]
+#[derive(Clone, Copy)]
 pub enum Transfer {
     Moved(usize),
     End,

@@ -9,7 +9,7 @@ ghost use Rattle.keys.specs.View.{view_place, no_place, view_key, view_keys};
 ghost use Rattle.keys.specs.Form.{is_blank, key_form, keys_form};
 
 // A field of a document.
-#[derive(Drop)]
+#[derive(Clone, Copy)]
 pub struct Place {
     pub document: u8,
     pub field: u8,
@@ -39,7 +39,7 @@ impl Place {
 }
 
 // The places that a key shows; none if the key is undefined.
-#[derive(Drop)]
+#[derive(Clone, Copy)]
 pub struct Key {
     pub count: u8,
     pub places: [Place; Key::LIMIT],
@@ -170,7 +170,7 @@ impl Key {
 }
 
 // The keys by their numbers.
-#[derive(Drop)]
+#[derive(Clone, Copy)]
 pub struct Keys {
     pub all: [Key; Keys::LIMIT],
 }

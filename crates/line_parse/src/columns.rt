@@ -9,7 +9,7 @@ ghost use Rattle.line_parse.specs.columns.View.{view_number, view_column, view_n
 use line_format::{BASE, CALL_WIDTH, DIGIT_NINE, DIGIT_ZERO, MINUS, NUMBER_WIDTH, SPACE};
 
 // What columns say: no number, or one.
-#[derive(Drop)]
+#[derive(Clone, Copy)]
 pub enum Number {
     Broken,
     Is(i64),

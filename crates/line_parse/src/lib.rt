@@ -13,7 +13,7 @@ use columns::Number;
 use line_format::{CALL_WIDTH, MOST_NUMBERS, NUMBER_WIDTH};
 
 // What a line says: a call, or why it is refused.
-#[derive(Drop)]
+#[derive(Clone, Copy)]
 pub enum Said {
     Says(Call),
     Faulty(Refusal),
@@ -23,7 +23,7 @@ pub enum Said {
 const UNKNOWN: u8 = 255;
 
 // Whether all numbers of a line are in form, and their values; those past its count do not count.
-#[derive(Drop)]
+#[derive(Clone, Copy)]
 struct Numbers {
     good: bool,
     values: [i64; MOST_NUMBERS],

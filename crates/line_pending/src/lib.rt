@@ -16,7 +16,7 @@ fn taken(size: usize, from: usize, to: usize, room: usize) -> usize
 }
 
 // The first bytes of a line: one more than the longest line in form has, which tells that a line is too long.
-#[derive(Drop)]
+#[derive(Clone, Copy)]
 pub struct Pending {
     pub line: [u8; Pending::LIMIT],
     pub len: u8,

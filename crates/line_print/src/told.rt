@@ -7,7 +7,7 @@ ghost use Rattle.line_print.specs.told.Told.{Tells, Shows};
 use answers::Answer;
 
 // What an answer tells: its refusal or 0, and the first `count` of the numbers.
-#[derive(Drop)]
+#[derive(Clone, Copy)]
 pub struct Told {
     pub refusal: u8,
     pub count: usize,

@@ -15,7 +15,7 @@ use line_pending::Pending;
 use plant::Plant;
 
 // The plant, what is kept of a line that is not ended, and how many bytes of the last piece were used, and of those lent with it filled.
-#[derive(Drop)]
+#[derive(Clone, Copy)]
 pub struct Server {
     pub plant: Plant,
     pub pending: Pending,

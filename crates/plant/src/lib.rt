@@ -12,7 +12,7 @@ use store::Store;
 use workers::{Hands, Queue};
 
 // Beside the tables: the clock, whether the store is near, and the number of the next session.
-#[derive(Drop)]
+#[derive(Clone, Copy)]
 pub struct Plant {
     pub store: Store,
     pub keys: Keys,

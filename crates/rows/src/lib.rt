@@ -12,7 +12,7 @@ fn same(a: u32, b: u32) -> bool
 }
 
 // Rows in the store: the numbers of applied sessions, in the order in which they came to stand.
-#[derive(Drop)]
+#[derive(Clone, Copy)]
 pub struct Rows {
     pub count: u8,
     pub numbers: [u32; Rows::LIMIT],

@@ -19,7 +19,7 @@ use changes::Update;
 use keys::Key;
 use session::Session;
 
-#[derive(Drop)]
+#[derive(Clone, Copy)]
 pub struct Sessions {
     pub count: u8,
     pub slots: [Session; Sessions::LIMIT],

@@ -29,7 +29,7 @@ fn since(begun: u64, now: u64) -> u16
     ticks as u16
 }
 
-#[derive(Drop)]
+#[derive(Clone, Copy)]
 pub struct Session {
     pub number: u32,
     pub begun: u64,

@@ -11,7 +11,7 @@ use changes::Changes;
 use keys::Place;
 
 // Whether it found a change that sets or unsets the place, how many changes it looked at, and how many buffered sessions it did not reach.
-#[derive(Drop)]
+#[derive(Clone, Copy)]
 pub struct Walk {
     pub found: bool,
     pub looked: u16,

@@ -13,7 +13,7 @@ use field::Field;
 use keys::Place;
 
 // The fields of a document stand side by side, and the documents in their order.
-#[derive(Drop)]
+#[derive(Clone, Copy)]
 pub struct Store {
     pub fields: [Field; Store::LIMIT],
 }

@@ -9,7 +9,7 @@ ghost use Rattle.workers.specs.View.{view_hand, view_hands, owner_of, view_queue
 ghost use Rattle.workers.specs.Form.{hand_form, hands_form, queue_form};
 
 // A worker's hand: the number of the session in it, and whether a reply of done or done before has come.
-#[derive(Drop)]
+#[derive(Clone, Copy)]
 pub struct Hand {
     pub full: bool,
     pub replied: bool,
@@ -89,7 +89,7 @@ impl Hand {
 }
 
 // The lease of the queue: since when, and in whose name, if in anybody's.
-#[derive(Drop)]
+#[derive(Clone, Copy)]
 pub struct Queue {
     pub live: bool,
     pub owned: bool,
@@ -176,7 +176,7 @@ impl Queue {
 }
 
 // The hands of the four workers.
-#[derive(Drop)]
+#[derive(Clone, Copy)]
 pub struct Hands {
     pub all: [Hand; Hands::LIMIT],
 }
