@@ -1,4 +1,5 @@
 -- Laws of the line format.
+mod WorkedLines
 pub mod Worked
 pub mod Short
 pub mod Cutting

@@ -1,7 +1,18 @@
 -- Laws and proofs over the rules.
 -- What other crates cite: Laws and Tests; of a call Steps; of kept plants KeptTest, KeptParts, KeptSlots, Buffer and Words; Away (a value without the store),
 -- Frames (what a call may write), Demand3 and CacheOrder.
+-- the worked runs, a file for each of specs/
+mod WorkedEdges
+mod WorkedCalls
+mod WorkedOrders
+mod WorkedBounds
+mod WorkedHistories
+mod WorkedCache
+mod WorkedRows
+mod WorkedPulls
+mod WorkedWalks
 pub mod Worked
+-- laws
 pub mod Laws
 pub mod Tests
 pub mod Accepts

@@ -1,13 +1,13 @@
 -- Every claim, proved.
-use Rattle.rules.specs.Edges.{edges, paper_run_lem}
-use Rattle.rules.specs.Runs.{runs}
-use Rattle.rules.specs.Orders.{orders}
-use Rattle.rules.specs.Bounds.{bounds}
-use Rattle.rules.specs.Histories.{histories}
-use Rattle.rules.specs.CacheRuns.{cache_runs_lem}
-use Rattle.rules.specs.RowRuns.{row_runs_lem}
-use Rattle.rules.specs.PullRuns.{pull_runs_lem}
-use Rattle.rules.specs.WalkRuns.{walk_runs_lem}
+use Rattle.rules.proofs.WorkedEdges.{edges, paper_run_lem}
+use Rattle.rules.proofs.WorkedCalls.{runs}
+use Rattle.rules.proofs.WorkedOrders.{orders}
+use Rattle.rules.proofs.WorkedBounds.{bounds}
+use Rattle.rules.proofs.WorkedHistories.{histories}
+use Rattle.rules.proofs.WorkedCache.{cache_runs_lem}
+use Rattle.rules.proofs.WorkedRows.{row_runs_lem}
+use Rattle.rules.proofs.WorkedPulls.{pull_runs_lem}
+use Rattle.rules.proofs.WorkedWalks.{walk_runs_lem}
 use Rattle.rules.specs.Theorem.{Theorem}
 use Rattle.rules.proofs.Steps.{refusals_leave_lem, three_ends_lem, four_ends_lem}
 use Rattle.rules.proofs.Sessionless.{spares_sessions_lem}

@@ -1,16 +1,14 @@
 -- Both edges of the limits: the last that is taken and the first that is not. Those of M1 to M12 stand in Edges, those of one refusal alone in Runs, those of cached keys in CacheRuns, those of a sweep in RowRuns.
-use Rattle.std.specs.Prelude.{◌≡◌, refl, false, true, List, [], ◌++◌, ◌∷◌, replicate, negsuc, pos}
-use Rattle.rules.specs.Lists.{pushed, span}
+use Rattle.std.specs.Prelude.{◌≡◌, false, true, List, [], ◌++◌, ◌∷◌, replicate, negsuc, pos}
+use Rattle.rules.specs.Lists.{span}
 use Rattle.rules.specs.Limits.{lowest, highest}
-use Rattle.rules.specs.Refusals.{seventh_member, sum_too_large, ◌⇒◌}
-use Rattle.rules.specs.Values.{fits32, in_range, absent, number, list, field_ok}
-use Rattle.rules.specs.Changes.{set, unset, inc, add, push, becomes, fails, member, put_last, change, outcome_refusal, field_of, meets, updated, field_after, sets, update_of}
-use Rattle.rules.specs.Tables.{documents, Plant, setup, with_cache, with_slots, with_buffer, with_rows, with_clock, with_next}
-use Rattle.rules.specs.Reading.{shows_it}
+use Rattle.rules.specs.Refusals.{seventh_member, sum_too_large}
+use Rattle.rules.specs.Values.{in_range, absent, number, list, field_ok}
+use Rattle.rules.specs.Changes.{set, unset, inc, add, push, becomes, fails, member, change, update_of}
+use Rattle.rules.specs.Tables.{Plant, setup, with_cache, with_slots, with_buffer, with_rows, with_clock, with_next}
 use Rattle.rules.specs.Calls.{arrives, unreached, Map, Begin, Change, Apply}
-use Rattle.rules.specs.Conditions.{conditions}
-use Rattle.rules.specs.Effects.{loaded, mapped, opened, begun, cache_after, only_at, after_read, with_exclusive, with_last, grant, changed, committed, abandoned, lapses, lapse, loses, is_lost, in_documents, stays, advanced, taken, carried, applied, deleted, cut}
-use Rattle.rules.specs.Step.{accepted, step}
+use Rattle.rules.specs.Effects.{opened, taken}
+use Rattle.rules.specs.Step.{step}
 use Rattle.rules.specs.Kept.{kept}
 use Rattle.rules.specs.Scenario.{Line, ◌gets◌, yes, says, no, line_of, after, Plays, pair, zeros, map_one, read, edit, advance, takes, apply, delete, cuts, setting, origin, begins, sixteen_cached, hand_with_rows}
 use Rattle.rules.specs.Edges.{changing, six_members}
@@ -123,28 +121,3 @@ pub record Bounds : Type 0 where
   pub rows_once : (kept (with_next 3 (with_rows (1 ∷ 1 ∷ []) setup)) ≡ false) × (kept (with_next 3 (with_rows (1 ∷ 2 ∷ 2 ∷ []) setup)) ≡ false)
   pub clock_kept : (kept (with_clock 99999999999 setup) ≡ true) × (kept (with_clock 100000000000 setup) ≡ false)
   pub numbers_kept : (kept (with_next 4294967296 setup) ≡ true) × (kept (with_next 4294967297 setup) ≡ false) × (kept (with_next 0 setup) ≡ false)
-
--- by computing
-pub bounds : Bounds
-unfolding setup step conditions accepted mapped loaded begun after_read cache_after only_at changed committed abandoned grant lapse advanced taken applied carried deleted cut meets updated change member put_last fits32 outcome_refusal field_of field_after pushed ◌⇒◌ documents with_last with_exclusive lapses loses is_lost in_documents stays shows_it sets kept
-bounds =
-    record {
-      changes = refl;
-      maps = refl;
-      places = refl;
-      fields = refl;
-      words = (refl, refl);
-      sums = (refl, refl, refl, refl, refl, refl, refl);
-      members = (refl, refl, refl, refl);
-      workers = refl;
-      clock = refl;
-      clock_past = refl;
-      rows = (refl, refl);
-      cached = (refl, refl);
-      slots = (refl, refl);
-      buffered = (refl, refl);
-      rows_kept = (refl, refl);
-      rows_once = (refl, refl);
-      clock_kept = (refl, refl);
-      numbers_kept = (refl, refl, refl);
-    }

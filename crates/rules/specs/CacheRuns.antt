@@ -1,16 +1,12 @@
 -- Runs worked out from the papers: what is cached, and of sixteen keys which one gives way.
-use Rattle.std.specs.Prelude.{◌≡◌, refl, false, true, List, [], ◌++◌, ◌∷◌, pos}
-use Rattle.rules.specs.Lists.{pushed}
-use Rattle.rules.specs.Refusals.{◌⇒◌, exclusive_elsewhere}
-use Rattle.rules.specs.Values.{fits32, number}
-use Rattle.rules.specs.Changes.{set, change, outcome_refusal, field_of, meets, updated, field_after, sets}
-use Rattle.rules.specs.Tables.{documents, keys_of, setup}
-use Rattle.rules.specs.Reading.{shows_it}
+use Rattle.std.specs.Prelude.{◌≡◌, false, true, List, [], ◌++◌, ◌∷◌, pos}
+use Rattle.rules.specs.Refusals.{exclusive_elsewhere}
+use Rattle.rules.specs.Values.{number}
+use Rattle.rules.specs.Changes.{set}
+use Rattle.rules.specs.Tables.{keys_of, setup}
 use Rattle.rules.specs.Calls.{Call, Begin, Abandon, Answer, refused, fine}
-use Rattle.rules.specs.Conditions.{conditions}
-use Rattle.rules.specs.Effects.{mapped, begun, cache_after, only_at, after_read, with_exclusive, with_last, grant, changed, committed, abandoned, lapses, lapse, loses, is_lost, in_documents, stays, advanced}
-use Rattle.rules.specs.Step.{accepted, step}
-use Rattle.rules.specs.History.{initial, Exchange}
+use Rattle.rules.specs.Effects.{lapse}
+use Rattle.rules.specs.History.{Exchange}
 use Rattle.rules.specs.CacheOrder.{by_reads, read_order}
 use Rattle.rules.specs.Scenario.{Line, ◌gets◌, yes, says, no, after, Plays, pair, map_one, read, edit, commit, advance, near, map_origin, edit_origin, map_keys, read_keys, sixteen_cached}
 use Rattle.rules.specs.Histories.{turns_of}
@@ -137,18 +133,3 @@ pub record CacheRuns : Type 0 where
       ∷ [])
       (3 ∷ 5 ∷ [])
       ≡ 3 ∷ 6 ∷ 7 ∷ 5 ∷ []
-
--- by computing
-pub cache_runs_lem : CacheRuns
-unfolding initial setup step conditions accepted mapped begun after_read cache_after only_at changed committed abandoned grant lapse advanced meets updated change fits32 outcome_refusal field_of field_after pushed ◌⇒◌ documents with_last with_exclusive lapses loses is_lost in_documents stays shows_it sets
-cache_runs_lem =
-    record {
-      seventeen = refl;
-      brought_up_to_date = refl;
-      cached_again = refl;
-      no_place = refl;
-      while_away = refl;
-      fields = (refl, refl);
-      order = (refl, refl, refl);
-      by_marks = refl;
-    }

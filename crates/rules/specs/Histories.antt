@@ -1,20 +1,15 @@
 -- The history and demand 3 tried on worked cases: what a list of calls writes, what the drain is asked of, and wrong worlds that demand 3 tells from right ones.
-use Rattle.std.specs.Prelude.{ℕ, ◌≡◌, refl, false, true, replicate, negsuc, pos, ℤ}
-use Rattle.std.proofs.Common.{arith, ap, subst, sym}
-use Rattle.std.proofs.lemmas.Bool.{false≢true}
-use mathlib.Core.List.{List, [], ◌++◌, ◌∷◌, head-eq_of_cons-eq, map, nil≢cons, tail-eq_of_cons-eq}
-use Rattle.rules.specs.Lists.{pushed, upto}
-use Rattle.rules.specs.Refusals.{◌⇒◌}
-use Rattle.rules.specs.Values.{fits32, absent, number, Stock}
-use Rattle.rules.specs.Changes.{set, inc, push, Update, follow, member, put_last, change, outcome_refusal, field_of, meets, updated, field_after, sets}
-use Rattle.rules.specs.Tables.{documents, numbers_of, Plant, setup, with_buffer, with_clock, with_store}
-use Rattle.rules.specs.Reading.{shows_it}
+use Rattle.std.specs.Prelude.{ℕ, ◌≡◌, false, true, replicate, negsuc, pos, ℤ}
+use mathlib.Core.List.{List, [], ◌++◌, ◌∷◌, map}
+use Rattle.rules.specs.Lists.{upto}
+use Rattle.rules.specs.Values.{absent, number, Stock}
+use Rattle.rules.specs.Changes.{set, inc, push, Update, change, meets}
+use Rattle.rules.specs.Tables.{numbers_of, Plant, setup, with_buffer, with_clock, with_store}
 use Rattle.rules.specs.Calls.{arrives, Load, Begin, Change, Abandon, Advance, Take, Apply, Delete, Cut, Sweep, Store}
-use Rattle.rules.specs.Conditions.{conditions}
-use Rattle.rules.specs.Effects.{loaded, mapped, begun, cache_after, only_at, after_read, with_exclusive, with_last, grant, changed, committed, abandoned, lapses, lapse, loses, is_lost, in_documents, stays, advanced, taken, carried, applied, deleted, cut, swept}
-use Rattle.rules.specs.Step.{accepted, step}
-use Rattle.rules.specs.History.{saw, wrote, Page, changes_of, Committed, History, whole, empty_history, with_commits, with_buffered, note, Turn, World, turns, initial, exchanges, numbers_begun}
-use Rattle.rules.specs.Demand3.{Right, AllRight, FirstPart, CommitOrder, AllBuffered, Prepares, cut_worker, bring_near, wait, preparing, rounds, NoneRefused, Drained, Holds, Demand3}
+use Rattle.rules.specs.Effects.{changed, committed, abandoned, taken, carried}
+use Rattle.rules.specs.Step.{accepted}
+use Rattle.rules.specs.History.{saw, wrote, Page, Committed, History, empty_history, with_commits, with_buffered, Turn, World, turns, initial, exchanges, numbers_begun}
+use Rattle.rules.specs.Demand3.{Right, AllRight, FirstPart, CommitOrder, Prepares, cut_worker, bring_near, wait, preparing, rounds, NoneRefused, Drained, Holds, Demand3}
 use Rattle.rules.specs.Scenario.{Line, ◌gets◌, yes, says, no, pair, zeros, map_two, read, edit, commit, report, advance, takes, apply, delete, cuts, near, origin, map_origin, edit_origin, setting, after, Plays, begins, slow1, latter_first}
 
 -- the turns of a run, with seventeen words lent
@@ -202,72 +197,3 @@ pub record Histories : Type 0 where
   pub stray_buffer : Holds (world_with (with_buffer (record { number = 2; changes = set_five ∷ [] } ∷ []) setup) (history_with [] (1 ∷ []))) → ⊥
   pub stray_order : Holds (world_with setup (history_with (five_set ∷ saw_nothing ∷ []) (2 ∷ 1 ∷ []))) → ⊥
   pub stray_page : Holds (world_with setup (history_with (five_set ∷ saw_nothing ∷ []) [])) → ⊥
-
--- ── proofs ──
-number-absent : number (pos 5) ≡ absent → ⊥
-number-absent e = let z : ◌≡◌ {A = ℕ} 0 1 = cc in omega arith
-
-no_other_store : (d l : List Committed) → [] ≡ d ++ l → five ≡ follow nothing (whole d) → ⊥
-no_other_store [] l e s = number-absent (ap (λ (t : Stock). t origin) s)
-no_other_store (x ∷ d) l e s = nil≢cons e
-
-not_buffered_lem : (d l : List Committed) → five_set ∷ [] ≡ d ++ l → nothing ≡ follow nothing (whole d) → AllBuffered [] l → ⊥
-unfolding updated change field_of field_after
-not_buffered_lem [] l e s o = let h : AllBuffered [] (five_set ∷ []) = subst (λ (m : List Committed). AllBuffered [] m) (sym e) o in false≢true (h.0 refl)
-not_buffered_lem (x ∷ []) l e s o =
-    let k : five_set ≡ x = head-eq_of_cons-eq e in
-    let h : absent ≡ follow nothing (changes_of x.page ++ []) origin = ap (λ (t : Stock). t origin) s in
-    let g : absent ≡ follow nothing (changes_of five_set.page ++ []) origin =
-    subst (λ (c : Committed). absent ≡ follow nothing (changes_of c.page ++ []) origin) (sym k) h in
-    number-absent (sym g)
-not_buffered_lem (x ∷ y ∷ d) l e s o = nil≢cons (tail-eq_of_cons-eq e)
-
--- an absent field's words are no number's
-kinds_differ : {l m : List ℤ} → pos 0 ∷ l ≡ pos 1 ∷ m → ⊥
-kinds_differ e = let z : ◌≡◌ {A = ℕ} 0 1 = cc in omega arith
-
-heads_differ : {l m : List ℕ} → 2 ∷ l ≡ 1 ∷ m → ⊥
-heads_differ e = let z : ◌≡◌ {A = ℕ} 2 1 = cc in omega arith
-
-pub histories : Histories
-unfolding setup step conditions accepted mapped loaded begun after_read cache_after only_at changed committed abandoned grant lapse advanced taken applied carried deleted cut swept meets updated change member put_last fits32 outcome_refusal field_of field_after pushed ◌⇒◌ documents with_last with_exclusive lapses loses is_lost in_documents stays shows_it sets initial empty_history note
-histories =
-    record {
-      played = (refl, refl);
-      pages = refl;
-      start_and_notes = (refl, refl, refl, refl, refl);
-      quiet_pages = refl;
-      quiet_notes = (refl, refl, refl, refl, refl);
-      numbers = refl;
-      deletes = (refl, refl);
-      deletes_latter = (refl, refl);
-      four = refl;
-      added = refl;
-      last_ticks = record { worker = refl; moves = refl; ticks_left = omega arith; store = refl };
-      brought_near = record { worker = refl; moves = refl; ticks_left = omega arith; store = refl };
-      both_near = record { worker = refl; moves = refl; ticks_left = omega arith; store = refl };
-      drain_plays = refl;
-      drains = λ h.
-          h.drains 3 (omega arith) (cut_worker ∷ wait 100 ∷ bring_near ∷ wait 200 ∷ [])
-          (record { worker = refl; moves = refl; ticks_left = omega arith; store = refl })
-          (turns_of late_calls) (turns_of four_of3) refl refl;
-      every_list = λ d. d (turns_of carried_and_swept);
-      other_words = λ r. kinds_differ (sym r.0);
-      old_words = λ r. kinds_differ r.1.0;
-      unfit_change = λ r. let z : ◌≡◌ {A = ℕ} 0 1 = cc r.1.0 in omega arith;
-      unfit_second = λ r. let z : ◌≡◌ {A = ℕ} 0 1 = cc r.1.0 in omega arith;
-      wrong_first = λ r. kinds_differ r.0.0;
-      wrong_second = λ r. kinds_differ r.1.0.0;
-      other_store = λ f. no_other_store f.done f.left f.split f.stock;
-      not_buffered = λ f. not_buffered_lem f.done f.left f.split f.stock f.others;
-      disordered = λ e. heads_differ e;
-      never_committed = λ e. nil≢cons (sym e);
-      refused_last = λ n. false≢true n.1.0;
-      left_buffered = λ d. nil≢cons (sym d.nothing_buffered);
-      not_stored = λ d. number-absent (sym (ap (λ (t : Stock). t origin) d.all_stored));
-      not_fine = λ d. false≢true d.none_refused.0;
-      stray_store = λ h. no_other_store h.first_part.done h.first_part.left h.first_part.split h.first_part.stock;
-      stray_buffer = λ h. heads_differ h.buffer;
-      stray_order = λ h. heads_differ h.commit_order;
-      stray_page = λ h. kinds_differ h.as_alone.1.0.0;
-    }

@@ -1,16 +1,11 @@
 -- Two conditions of a call hold at once: the first in the paper's order is given. Where two neighbours never hold at once, that is said.
-use Rattle.std.specs.Prelude.{suc, ℕ, ◌≡◌, refl, false, true, List, [], ◌++◌, ◌∷◌, negsuc, pos}
-use Rattle.rules.specs.Lists.{pushed}
+use Rattle.std.specs.Prelude.{suc, ℕ, ◌≡◌, false, true, List, [], ◌++◌, ◌∷◌, negsuc, pos}
 use Rattle.rules.specs.Limits.{last_session, highest}
-use Rattle.rules.specs.Refusals.{◌⇒◌}
-use Rattle.rules.specs.Values.{fits32}
-use Rattle.rules.specs.Changes.{set, inc, push, member, put_last, change, outcome_refusal, field_of, meets, updated, field_after, sets}
-use Rattle.rules.specs.Tables.{documents, setup, with_clock, with_next}
-use Rattle.rules.specs.Reading.{shows_it}
+use Rattle.rules.specs.Changes.{set, inc, push, change}
+use Rattle.rules.specs.Tables.{setup, with_clock, with_next}
 use Rattle.rules.specs.Calls.{arrives, lost, unreached, Call, Map, Begin, Abandon, Take, Apply, Delete, Report}
 use Rattle.rules.specs.Conditions.{conditions}
-use Rattle.rules.specs.Effects.{loaded, mapped, begun, cache_after, only_at, after_read, with_exclusive, with_last, grant, changed, committed, abandoned, lapses, lapse, loses, is_lost, in_documents, stays, advanced, taken, carried, applied, deleted, cut}
-use Rattle.rules.specs.Step.{accepted, step}
+use Rattle.rules.specs.Step.{step}
 use Rattle.rules.specs.Scenario.{Line, ◌gets◌, yes, says, no, line_of, after, Plays, load, pair, zeros, map_one, map_two, read, edit, commit, advance, takes, apply, delete, near, map_origin, edit_origin, setting, begins, sets_by, pushes, hand_with_rows, applied1}
 use Rattle.rules.specs.Edges.{changing}
 
@@ -180,26 +175,3 @@ pub record Orders : Type 0 where
   pub of_replied : Plays setup (applied1 ++ (apply 0 unreached gets no 17 ∷ near false gets yes ∷ apply 0 arrives gets no 17 ∷ []))
   -- delete 1, 17
   pub of_delete : Plays setup (delete 4 gets no 1 ∷ Delete (negsuc 0) gets no 1 ∷ delete 0 gets no 17 ∷ [])
-
--- by computing
-pub orders : Orders
-unfolding setup step conditions accepted mapped loaded begun after_read cache_after only_at changed committed abandoned grant lapse advanced taken applied carried deleted cut meets updated change member put_last fits32 outcome_refusal field_of field_after pushed ◌⇒◌ documents with_last with_exclusive lapses loses is_lost in_documents stays shows_it sets
-orders =
-    record {
-      of_load = refl;
-      of_map = refl;
-      of_begin = refl;
-      of_read = refl;
-      of_doomed = refl;
-      of_words = (refl, refl, refl, refl, refl);
-      of_change = refl;
-      of_lapsed = refl;
-      of_commit = refl;
-      of_abandon = refl;
-      of_report = refl;
-      of_advance = refl;
-      of_take = refl;
-      of_apply = refl;
-      of_replied = refl;
-      of_delete = refl;
-    }

@@ -1,21 +1,20 @@
 -- Runs worked out from the papers: what a pull takes out and what it leaves, by a load and by a session, in the store and in what reads show.
-use Rattle.std.specs.Prelude.{ℕ, ◌≡◌, refl, false, true, replicate, negsuc, pos, ℤ}
-use Rattle.std.proofs.Common.{arith, ◌∙◌, sym, true≢false}
-use mathlib.Core.List.{List, [], ◌++◌, ◌∷◌, map, nil≢cons, tail-eq_of_cons-eq}
-use Rattle.rules.specs.Lists.{any, pushed}
+use Rattle.std.specs.Prelude.{◌≡◌, false, true, replicate, negsuc, pos, ℤ}
+use mathlib.Core.List.{List, [], ◌++◌, ◌∷◌, map}
+use Rattle.rules.specs.Lists.{any}
 use Rattle.rules.specs.Limits.{lowest, highest}
-use Rattle.rules.specs.Refusals.{wrong_kind, ◌⇒◌}
-use Rattle.rules.specs.Values.{fits32, Place, absent, number, list}
-use Rattle.rules.specs.Changes.{set, unset, inc, add, push, pull, Update, becomes, fails, member, put_last, change, outcome_refusal, field_of, meets, updated, field_after, sets}
-use Rattle.rules.specs.Tables.{documents, setup}
-use Rattle.rules.specs.Reading.{shows_it, seen_away}
+use Rattle.rules.specs.Refusals.{wrong_kind}
+use Rattle.rules.specs.Values.{Place, absent, number, list}
+use Rattle.rules.specs.Changes.{set, unset, inc, add, push, pull, Update, becomes, fails, member, change}
+use Rattle.rules.specs.Tables.{setup}
+use Rattle.rules.specs.Reading.{seen_away}
 use Rattle.rules.specs.Calls.{arrives, lost, Call, Begin}
-use Rattle.rules.specs.Conditions.{own, conditions}
-use Rattle.rules.specs.Effects.{loaded, mapped, begun, cache_after, only_at, after_read, with_exclusive, with_last, grant, changed, committed, lapses, lapse, advanced, loses, is_lost, in_documents, stays, taken, carried, applied, deleted}
-use Rattle.rules.specs.Step.{accepted, step}
-use Rattle.rules.specs.History.{empty_history, note, initial, exchanges}
+use Rattle.rules.specs.Conditions.{own}
+use Rattle.rules.specs.Effects.{stays, carried}
+use Rattle.rules.specs.Step.{accepted}
+use Rattle.rules.specs.History.{initial, exchanges}
 use Rattle.rules.specs.Claims.{shown_to}
-use Rattle.rules.specs.Pulls.{Without, Pulls, LoadPulls, ChangePulls, puts, Withdrawn, LacksAll, loads_of, bookings, ReadsLack}
+use Rattle.rules.specs.Pulls.{Pulls, LoadPulls, ChangePulls, puts, Withdrawn, LacksAll, loads_of, bookings, ReadsLack}
 use Rattle.rules.specs.Scenario.{Line, ◌gets◌, yes, says, no, alone, after, Plays, load, pair, read, edit, commit, advance, takes, apply, near, at, origin, elsewhere, map_origin, map_one, edit_origin, pushes}
 use Rattle.rules.specs.Histories.{turns_of, world_of}
 
@@ -124,54 +123,3 @@ pub record PullRuns : Type 0 where
   -- the cached key shows what the pull left, and it is found without the store
   pub cached : ((after recalled setup).cache ≡ record { key = 0; fields = list (pos 7 ∷ []) ∷ [] } ∷ [])
       × (seen_away (after pulled setup).keys (after pulled setup).cache (after pulled setup).buffer (own (pos 1) (after pulled setup)) origin ≡ list (pos 7 ∷ []))
-
-seven_four : pos 7 ≡ pos 4 → ⊥
-seven_four e = let z : ◌≡◌ {A = ℕ} 7 4 = cc in omega arith
-
-absent-list : (m : List ℤ) → becomes absent ≡ becomes (list m) → ⊥
-absent-list m e = let z : ◌≡◌ {A = ℕ} 0 1 = cc in omega arith
-
-absent-fails : becomes absent ≡ fails wrong_kind → ⊥
-absent-fails e = let z : ◌≡◌ {A = ℕ} 0 1 = cc in omega arith
-
-second_stays : (m : List ℤ) → becomes (list (pos 7 ∷ four [])) ≡ becomes (list m) → Without (pos 4) (four (pos 7 ∷ four [])) m → ⊥
-second_stays m e w =
-    let x = (w.0 refl).1 seven_four in
-    let same : pos 7 ∷ four [] ≡ m = cc in
-    nil≢cons (sym (tail-eq_of_cons-eq (same ∙ x.1) ∙ x.2.0 refl))
-
--- by computing
-pub pull_runs_lem : PullRuns
-unfolding initial empty_history note setup step conditions accepted mapped loaded begun after_read cache_after only_at changed committed grant lapse advanced taken applied carried deleted meets updated change member put_last fits32 outcome_refusal field_of field_after pushed ◌⇒◌ documents with_last with_exclusive lapses loses is_lost in_documents stays shows_it sets seen_away
-pull_runs_lem =
-    record {
-      all_six = refl;
-      apart = refl;
-      together = refl;
-      none = (refl, refl);
-      signs = (refl, refl);
-      no_list = (refl, refl);
-      by_load = refl;
-      loaded_store = refl;
-      seen_at_once = (refl, refl);
-      seen_cached = (refl, refl, refl);
-      seen_buffered = refl;
-      stored = (refl, refl, refl);
-      emptied = refl;
-      put_back = refl;
-      puts_it = refl;
-      puts_not = refl;
-      loads = refl;
-      withdrawn = λ q v before later e. record { before = before; later = later; pulled = refl; not_put = e };
-      stands = refl;
-      stray_first = λ h. true≢false (h origin (pos 4) (record { before = []; later = []; pulled = refl; not_put = refl }));
-      stray_last = λ h. true≢false (h origin (pos 4) (record { before = []; later = []; pulled = refl; not_put = refl }));
-      stray_pull = λ h. second_stays h.0 h.1 h.2;
-      stray_absent = λ h. absent-list h.0 h.1;
-      stray_begun = λ h. absent-list [] (sym h);
-      stray_number = absent-fails;
-      of_load = λ c. c (pos 0) (pos 0) (pos 4) [] (after booked setup) [] refl;
-      of_change = λ c. c (pos 1) (pos 0) (pos 0) (pos 4) [] (after (booked ++ (Begin gets says 1 ∷ [])) setup) (1 ∷ []) refl;
-      of_read = λ c. c (turns_of busy) (pos 2);
-      cached = (refl, refl);
-    }

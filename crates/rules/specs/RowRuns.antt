@@ -1,15 +1,10 @@
 -- Runs worked out from the papers: which rows a sweep takes, what it answers, and the order in which rows stand.
-use Rattle.std.specs.Prelude.{suc, ℕ, ◌≡◌, refl, false, true, List, [], ◌++◌, ◌∷◌}
-use Rattle.rules.specs.Lists.{pushed, span}
-use Rattle.rules.specs.Refusals.{◌⇒◌}
-use Rattle.rules.specs.Values.{fits32}
-use Rattle.rules.specs.Changes.{change, outcome_refusal, field_of, meets, updated, field_after}
-use Rattle.rules.specs.Tables.{documents, Plant, setup, with_rows, with_next}
+use Rattle.std.specs.Prelude.{suc, ℕ, ◌≡◌, false, true, List, [], ◌++◌, ◌∷◌}
+use Rattle.rules.specs.Lists.{span}
+use Rattle.rules.specs.Tables.{Plant, setup, with_rows, with_next}
 use Rattle.rules.specs.Calls.{arrives, unreached, Sweep}
-use Rattle.rules.specs.Conditions.{conditions}
-use Rattle.rules.specs.Effects.{begun, with_exclusive, with_last, grant, changed, committed, lapses, lapse, advanced, taken, carried, applied, deleted, cut, swept}
-use Rattle.rules.specs.Step.{accepted, step}
-use Rattle.rules.specs.History.{initial}
+use Rattle.rules.specs.Effects.{applied, swept}
+use Rattle.rules.specs.Step.{step}
 use Rattle.rules.specs.RowOrder.{came, applied_order}
 use Rattle.rules.specs.Scenario.{Line, ◌gets◌, yes, says, no, after, Plays, advance, takes, apply, delete, cuts, near, setting, hand_with_rows, applied1, slow1, latter_first}
 use Rattle.rules.specs.Histories.{turns_of}
@@ -76,29 +71,3 @@ pub record RowRuns : Type 0 where
       ≡ []
   -- what came is what was not there
   pub came_alone : came (4 ∷ 2 ∷ []) (2 ∷ 7 ∷ []) ≡ 7 ∷ []
-
--- by computing
-pub row_runs_lem : RowRuns
-unfolding initial setup step conditions accepted begun changed committed grant lapse advanced taken applied carried deleted cut swept meets updated change fits32 outcome_refusal field_of field_after pushed ◌⇒◌ documents with_last with_exclusive lapses
-row_runs_lem =
-    record {
-      buffered = refl;
-      in_hand = refl;
-      none = refl;
-      fifteen = refl;
-      sixteen = refl;
-      seventeen = refl;
-      all = refl;
-      first_go = refl;
-      by_place = refl;
-      passed = (refl, refl, refl, refl, refl);
-      passed_over = refl;
-      away = refl;
-      last_row = refl;
-      order = (refl, refl);
-      found_again = (refl, refl);
-      swept = (refl, refl);
-      two_later = refl;
-      not_reached = refl;
-      came_alone = refl;
-    }

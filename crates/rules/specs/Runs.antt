@@ -1,16 +1,14 @@
 -- More runs worked out from paper 01: each refusal beside calls that are accepted, leases, marks, words, and the workers' calls.
-use Rattle.std.specs.Prelude.{◌≡◌, refl, false, true, List, [], ◌++◌, ◌∷◌, map, replicate, negsuc, pos}
+use Rattle.std.specs.Prelude.{◌≡◌, false, true, List, [], ◌++◌, ◌∷◌, map, replicate, negsuc, pos}
 use Rattle.std.proofs.Math.Option.{none, some}
-use Rattle.rules.specs.Lists.{pushed, span}
+use Rattle.rules.specs.Lists.{span}
 use Rattle.rules.specs.Limits.{document_count, field_count, key_count, place_limit, member_limit, cache_limit, slot_limit, change_limit, buffer_limit, row_limit, sweep_limit, worker_count, words_per_field, lease_ticks, session_ticks, advance_limit, last_tick, first_session, last_session, highest}
-use Rattle.rules.specs.Refusals.{refusal_number, out_of_range, no_slot, was_doomed, exclusive_elsewhere, changes_full, wrong_kind, seventh_member, sum_too_large, key_undefined, slots_full, numbers_spent, session_begun, key_defined, bad_places, buffer_full, queue_leased, wrong_hand, nothing_buffered, rows_full, store_away, clock_end, few_words, bad_line, ◌⇒◌}
-use Rattle.rules.specs.Values.{fits32, absent, number, list, show}
-use Rattle.rules.specs.Changes.{set, unset, inc, add, push, pull, becomes, member, put_last, change, outcome_refusal, field_of, meets, updated, field_after, sets}
+use Rattle.rules.specs.Refusals.{refusal_number, out_of_range, no_slot, was_doomed, exclusive_elsewhere, changes_full, wrong_kind, seventh_member, sum_too_large, key_undefined, slots_full, numbers_spent, session_begun, key_defined, bad_places, buffer_full, queue_leased, wrong_hand, nothing_buffered, rows_full, store_away, clock_end, few_words, bad_line}
+use Rattle.rules.specs.Values.{absent, number, list, show}
+use Rattle.rules.specs.Changes.{set, unset, inc, add, push, pull, becomes, member, change, meets}
 use Rattle.rules.specs.Tables.{documents, leased, setup, removable, with_rows, with_clock, with_next}
-use Rattle.rules.specs.Reading.{shows_it}
 use Rattle.rules.specs.Calls.{arrives, lost, unreached, Load, Map, Begin, Read, Change, Commit, Abandon, Advance, Take, Apply, Delete, Cut, Sweep, Store, Report, call_number, fine}
-use Rattle.rules.specs.Conditions.{conditions}
-use Rattle.rules.specs.Effects.{loaded, mapped, begun, cache_after, only_at, after_read, with_exclusive, with_last, grant, changed, committed, abandoned, lapses, lapse, loses, is_lost, in_documents, stays, advanced, taken, carried, applied, deleted, cut, swept}
+use Rattle.rules.specs.Effects.{begun, grant, committed, lapses, lapse, stays, carried, applied, deleted, cut, swept}
 use Rattle.rules.specs.Step.{accepted, step}
 use Rattle.rules.specs.Kept.{kept}
 use Rattle.rules.specs.Scenario.{Line, ◌gets◌, yes, says, no, line_of, after, Plays, load, pair, zeros, map_one, map_two, read, edit, commit, report, advance, takes, apply, delete, cuts, near, origin, map_origin, edit_origin, setting, begins, sets_by, pushes, hand_with_rows, applied1, deleted1, slow1, latter_first, overtaken}
@@ -830,97 +828,3 @@ pub record Runs : Type 0 where
   pub computes : (kept (after (map_origin gets yes ∷ setting 1 1 ++ (takes 0 gets says 1 ∷ apply 0 lost gets says 0 ∷ Begin gets says 2
       ∷ read 2 0 gets says 1 ∷ edit_origin 2 inc (pos 1) gets says 1 ∷ [])) setup) ≡ true)
       × (kept (with_rows (1 ∷ []) setup) ≡ false)
-
--- by computing
-pub runs : Runs
-unfolding setup step conditions accepted mapped loaded begun after_read cache_after only_at changed committed abandoned grant lapse advanced taken applied carried deleted cut swept meets updated change member put_last fits32 outcome_refusal field_of field_after pushed ◌⇒◌ documents with_last with_exclusive lapses loses is_lost in_documents stays shows_it sets kept
-runs =
-    record {
-      range = refl;
-      range' = refl;
-      no_session = refl;
-      lapsed = refl;
-      hindered = refl;
-      nine = refl;
-      unfit = refl;
-      seven = refl;
-      unfit_spares = refl;
-      undefined = refl;
-      words = (refl, refl);
-      slots = refl;
-      spent = refl;
-      set_up = refl;
-      workers = refl;
-      slow = refl;
-      nobodys = refl;
-      drained = refl;
-      sweeping = (refl, refl, refl);
-      rows = refl;
-      rows_left = refl;
-      row_there = refl;
-      away = refl;
-      clock = refl;
-      marks = refl;
-      grants = refl;
-      shown = refl;
-      full_spares = refl;
-      doomed_calls = refl;
-      slot_kept = refl;
-      half_known = refl;
-      fates_away = refl;
-      read_again = refl;
-      other_lease = refl;
-      lapse_drops = refl;
-      mark_by_place = refl;
-      six = refl;
-      pulls = (refl, refl);
-      bad_pairs = refl;
-      ever_begins = refl;
-      reused = refl;
-      counted = refl;
-      later_life = refl;
-      later_leases = refl;
-      later_queue = refl;
-      read_exclusive = refl;
-      lapse_drops_all = refl;
-      life_drops = refl;
-      mark_by_second = refl;
-      cached_known = refl;
-      abandon_away = refl;
-      lease_kept = refl;
-      negatives = refl;
-      wide_session = refl;
-      add_to_number = refl;
-      empty_shown = refl;
-      lapse_together = refl;
-      gone_lease = refl;
-      mark_by_any = refl;
-      buffered_known = refl;
-      replied_hand = refl;
-      nobodys_stays = refl;
-      nameless = (refl, refl);
-      six_shown = refl;
-      every_cached = refl;
-      fates = refl;
-      signs = (refl, refl, refl, refl, refl);
-      replaced = (refl, refl, refl, refl);
-      known_by_any = refl;
-      inc_unknown = refl;
-      known_lost = refl;
-      exclusive_anywhere = refl;
-      ends = refl;
-      doomed_loses = refl;
-      only_lapses_drop = refl;
-      gone_spares = refl;
-      last_hand = (refl, refl, refl);
-      latter = refl;
-      other_hand = (refl, refl, refl);
-      full_rows_leave = refl;
-      shown_once = refl;
-      refused_spare = refl;
-      carries_one = (refl, refl);
-      limits = refl;
-      refusals = refl;
-      numbers = refl;
-      computes = (refl, refl);
-    }
