@@ -1,4 +1,6 @@
 // Sets of documents, each a number whose binary digit d says whether document d is in the set.
+#![tactic(auto)]
+
 ghost use Rattle.std.specs.Prelude.{◌≡◌, false, ◌&&◌, ◌||◌, leb, ltb, get_or};
 ghost use Rattle.rules.specs.Lists.{any, from, override};
 ghost use Rattle.rules.specs.Limits.{document_count};
