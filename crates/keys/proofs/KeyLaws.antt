@@ -8,7 +8,7 @@ use mathlib.Core.List.{[], ◌∷◌}
 use lib.ListN.{length, get_or, set, drop, replicate}
 use lib.Dec.{eqb, ltb}
 use borrow.Author.Tests.{eq-eqb, ne_eqb, lt-ltb, le-ltb}
-use Rattle.rules.specs.Lists.{any, all, override}
+use Rattle.rules.specs.Lists.{any, override}
 use Rattle.rules.specs.Limits.{key_count}
 use Rattle.rules.specs.Values as S
 use Rattle.docset.specs.Sets.{docs}

@@ -1,4 +1,6 @@
 // Places, keys of one to four places, and the table of keys.
+#![tactic(auto)]
+
 ghost use Rattle.std.specs.Prelude.{◌≡◌, true, cond, [], ◌≤◌, ltb, length, get_or, drop};
 ghost use Rattle.rules.specs.Limits.{place_limit, key_count};
 ghost use Rattle.rules.specs.Lists.{any, is_empty, pushed, override};
