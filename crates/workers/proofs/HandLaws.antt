@@ -9,7 +9,7 @@ use lib.Seq.{take_all}
 use lib.Dec.{eqb, ltb}
 use borrow.Author.Tests.{lt-ltb, le-ltb}
 use Rattle.rules.specs.Limits.{worker_count}
-use Rattle.rules.specs.Lists.{any, all, override}
+use Rattle.rules.specs.Lists.{any, override}
 use Rattle.rules.specs.Tables as M
 use Rattle.rules.proofs.Laws.{by_case}
 use Rattle.lists.specs.Table.{counted}

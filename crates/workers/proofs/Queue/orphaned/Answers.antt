@@ -1,0 +1,15 @@
+-- `Queue::orphaned` meets its contract.
+use Rattle.workers.proofs.QueueLaws.{cut_own, cut_other, cut_form}
+use Rattle.workers.proofs.Queue.orphaned.Goals as goal
+
+pub returns-then-is_owned_by-clause-shows : goal.returns-then-is_owned_by-clause-shows
+returns-then-is_owned_by-clause-shows c = search cut_own
+
+pub returns-then-is_owned_by-clause-form : goal.returns-then-is_owned_by-clause-form
+returns-then-is_owned_by-clause-form c = cut_form _
+
+pub returns-clause-shows : goal.returns-clause-shows
+returns-clause-shows c = search cut_other
+
+pub returns-clause-form : goal.returns-clause-form
+returns-clause-form c = λ f. f
