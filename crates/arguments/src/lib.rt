@@ -1,4 +1,6 @@
 // A caller's numbers, any integers, read as what the tables number.
+#![tactic(auto)]
+
 pub mod change;
 pub mod places;
 

@@ -126,23 +126,23 @@ fits_small (negsuc n) h = record { sfits = omega (arith, leb-true n 2147483647 (
 
 -- ── changes ──
 module _ (x y z v : ℤ) where
-  abbrev good : Bool
-  good = good_place x y && good_change z v
+  abbrev all_good : Bool
+  all_good = good_place x y && good_change z v
 
   abbrev Asked : Update → Type 0
-  Asked u = (not (eqb u.kind 0) ≡ good) × ((good ≡ true → view_update u ≡ update_of (place_of x y) (nat_of z) v) × (good ≡ true → is_used u ≡ true))
+  Asked u = record { good : not (eqb u.kind 0) ≡ all_good; shows : all_good ≡ true → view_update u ≡ update_of (place_of x y) (nat_of z) v; form : all_good ≡ true → is_used u ≡ true }
 
-  pub nothing : (u : Update) → is_unused u ≡ true → good ≡ false → Asked u
+  pub nothing : (u : Update) → is_unused u ≡ true → all_good ≡ false → Asked u
   unfolding is_unused
   nothing u e n =
       let h : eqb u.kind 0 ≡ true = (and_true (is_blank u.place) _ (and_true (is_blank u.place && eqb u.kind 0) _ e).0).1 in
-      (rw (n, h) refl, (λ t. absurd (true≢false (sym t ∙ n)), λ t. absurd (true≢false (sym t ∙ n))))
+      record { good = rw (n, h) refl; shows = λ t. absurd (true≢false (sym t ∙ n)); form = λ t. absurd (true≢false (sym t ∙ n)) }
 
   module _ (wx : SFits w64 x) (wy : SFits w64 y) (q : Place) (eq : in_range (view_place q) ≡ good_place (held x) (held y)) (b : Bool) (eb : b ≡ in_range (view_place q)) where
     place_is : good_place x y ≡ b
     place_is = sym (eb ∙ eq ∙ rw (to_z-of_z wx, to_z-of_z wy) refl)
 
-    pub no_place_lem : not b ≡ true → good ≡ false
+    pub no_place_lem : not b ≡ true → all_good ≡ false
     no_place_lem h = rw (place_is, not-true b h) refl
 
     module _ (wz : SFits w64 z) (i : not b ≡ false) (k : ℕ) (ek : k ≡ cond (good_kind (held z)) (nat_of (held z)) 0) where
@@ -159,7 +159,7 @@ module _ (x y z v : ℤ) where
           absurd (true≢false (sym (and_true (below z 7) false (rw (kind_test z, m) at t)).1)))
           (λ t. t)
 
-      pub no_such_kind : k ≡ 0 → good ≡ false
+      pub no_such_kind : k ≡ 0 → all_good ≡ false
       no_such_kind o = rw (place_is, h, bad_kind o) refl
 
       module _ (n : k ≡ 0 → ⊥) (wv : SFits w64 v) (a : Bool) (ea : a ≡ good_value (kind_of k) (held v)) where
@@ -172,7 +172,7 @@ module _ (x y z v : ℤ) where
         value_is : good_value (kind_of (nat_of z)) v ≡ a
         value_is = rw its_kind (sym (ea ∙ rw (to_z-of_z wv) refl))
 
-        pub no_value : not a ≡ true → good ≡ false
+        pub no_value : not a ≡ true → all_good ≡ false
         no_value g = rw (place_is, h, good_kind_lem, value_is, not-true a g) refl
 
         module _ (j : not a ≡ false) where
@@ -188,7 +188,7 @@ module _ (x y z v : ℤ) where
           value_held : to_z w32 (of_z w32 (held v)) ≡ v
           value_held = to_z-of_z value_small ∙ to_z-of_z wv
 
-          pub asked_good : not (eqb k 0) ≡ good
+          pub asked_good : not (eqb k 0) ≡ all_good
           asked_good = rw (place_is, h, good_kind_lem, value_is, g, ne_eqb k 0 n) refl
 
           pub asked_shown : (good_place (held x) (held y) ≡ true → view_place q ≡ place_of (held x) (held y)) → view_update (record { place = q; kind = k; value = to_z w32 (of_z w32 (held v)) }) ≡ update_of (place_of x y) (nat_of z) v
