@@ -1,4 +1,6 @@
 // The clock: how long a lease lasts, and whether what began at a tick has ended.
+#![tactic(auto)]
+
 ghost use Rattle.std.specs.Prelude.{◌≡◌, ◌+◌, leb};
 
 // A lease on a document, and that of the queue.
