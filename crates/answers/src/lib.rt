@@ -1,4 +1,6 @@
 // What a call answers: a refusal, or what it tells. `number` has the paper's numbers of refusals, marks and replies.
+#![tactic(auto)]
+
 ghost use Rattle.std.specs.Prelude.{◌≡◌};
 ghost use Rattle.rules.specs.Refusals.{refusal_number, ends_session};
 ghost use Rattle.rules.specs.Calls.{mark_number, reply_number};
