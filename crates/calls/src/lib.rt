@@ -1,5 +1,7 @@
 // The fifteen calls as values, with their arguments in the paper's order; any numbers. `specs/View` says which call of the rules each is.
 // And calls one after the other, as a list.
+#![tactic(auto)]
+
 ghost use Rattle.std.specs.Prelude.{◌≡◌, [], length};
 ghost use Rattle.rules.specs.Lists.{pushed};
 ghost use Rattle.calls.specs.View.{view_calls, list_limit};

@@ -1,0 +1,14 @@
+-- `Calls::len` meets its contract.
+use Rattle.lists.proofs.Loops.{length_mapped}
+use Rattle.lists.proofs.Views.{counted-few, counted_full}
+use Rattle.calls.specs.View.{view_calls}
+use borrow.Author.Rules.{rules}
+use Rattle.calls.proofs.Calls.len.Goals as goal
+
+pub returns-then-n-ge-LIMIT : goal.returns-then-n-ge-LIMIT
+unfolding view_calls
+returns-then-n-ge-LIMIT c = search (counted_full, length_mapped, rules)
+
+pub returns : goal.returns
+unfolding view_calls
+returns c = search (counted-few, length_mapped, rules)
