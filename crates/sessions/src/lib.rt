@@ -1,4 +1,6 @@
 // The table of the sessions with a slot, in the order of their numbers.
+#![tactic(auto)]
+
 pub mod session;
 
 ghost use Rattle.std.specs.Prelude.{◌≡◌, true, cond, [], min, ltb, length};

@@ -2,10 +2,10 @@
 use Prim.Native.Nat.{ℕ, ◌+◌, ◌-◌, ◌≤◌}
 use native.Mathlib.Omega.{arith}
 use mathlib.Core.Path.{◌≡◌, refl, sym, ◌∙◌, ap, fun_ext}
-use mathlib.Core.Bool.{Bool, true, false, not, cond, ◌&&◌}
+use mathlib.Core.Bool.{Bool, true, false, cond, ◌&&◌}
 use lib.Dec.{leb}
 use lib.ListN.{get_or}
-use borrow.Author.Tests.{le-leb, lt-leb, leb-true, leb-false, not-true, not-false}
+use borrow.Author.Tests.{le-leb, lt-leb, leb-true, leb-false}
 use Rattle.rules.specs.Limits.{lease_ticks, session_ticks}
 use Rattle.rules.specs.Lists.{any}
 use Rattle.rules.specs.Tables as M
@@ -43,21 +43,21 @@ module _ (b t clock : ℕ) where
 
 module _ (s : Session) (clock : ℕ) where
   module _ (b : Bool) (k : b ≡ leb (s.begun + lease_ticks) clock) where
-    pub lapsed_early : not b ≡ true → false ≡ any (λ d. M.has_lapsed clock ((view_session s).lease d)) M.documents
+    pub lapsed_early : b ≡ false → false ≡ any (λ d. M.has_lapsed clock ((view_session s).lease d)) M.documents
     unfolding view_session ticks
     lapsed_early h =
         sym
         (any_false (λ d. M.has_lapsed clock ((view_session s).lease d))
         (λ d.
         over_is (docs s.shared) (docs s.exclusive) (ticks s.begun s.granted) clock d
-        ∙ ap (λ (x : Bool). M.is_held ((view_session s).lease d) && x) (young s.begun (get_or s.granted d 0) clock (sym k ∙ not-true b h))
+        ∙ ap (λ (x : Bool). M.is_held ((view_session s).lease d) && x) (young s.begun (get_or s.granted d 0) clock (sym k ∙ h))
         ∙ and_false (M.is_held ((view_session s).lease d)) false refl)
         M.documents)
 
-    pub lapse_room : not b ≡ false → s.begun + lease_ticks ≤ clock
-    lapse_room h = leb-true (s.begun + lease_ticks) clock (sym k ∙ not-false b h)
+    pub lapse_room : b ≡ true → s.begun + lease_ticks ≤ clock
+    lapse_room h = leb-true (s.begun + lease_ticks) clock (sym k ∙ h)
 
-    pub lapsed_late : (u : ℕ) (r : Bool) → not b ≡ false → docs u ≡ (λ d. M.is_held ((view_session s).lease d)) → r ≡ any (λ d. docs u d && leb (get_or s.granted d 0) (clock - s.begun - lease_ticks)) M.documents
+    pub lapsed_late : (u : ℕ) (r : Bool) → b ≡ true → docs u ≡ (λ d. M.is_held ((view_session s).lease d)) → r ≡ any (λ d. docs u d && leb (get_or s.granted d 0) (clock - s.begun - lease_ticks)) M.documents
         → r ≡ any (λ d. M.has_lapsed clock ((view_session s).lease d)) M.documents
     unfolding view_session ticks
     lapsed_late u r h e q =
@@ -65,7 +65,7 @@ module _ (s : Session) (clock : ℕ) where
         ∙ ap (λ (p : ℕ → Bool). any p M.documents)
         (fun_ext (λ d.
         ap (λ (x : ℕ → Bool). x d && leb (get_or s.granted d 0) (clock - s.begun - lease_ticks)) e
-        ∙ ap (λ (x : Bool). M.is_held ((view_session s).lease d) && x) (old s.begun (get_or s.granted d 0) clock (sym k ∙ not-false b h))
+        ∙ ap (λ (x : Bool). M.is_held ((view_session s).lease d) && x) (old s.begun (get_or s.granted d 0) clock (sym k ∙ h))
         ∙ sym (over_is (docs s.shared) (docs s.exclusive) (ticks s.begun s.granted) clock d)))
 
   -- ── the session ──
