@@ -1,4 +1,6 @@
 // The plant: all tables in one struct.
+#![tactic(auto)]
+
 ghost use Rattle.std.specs.Prelude.{◌≡◌, true};
 ghost use Rattle.rules.specs.Tables.{setup};
 ghost use Rattle.plant.specs.View.{view_plant, kept_plant};
