@@ -1,4 +1,6 @@
 // The buffer: committed sessions that wait for a worker, oldest first.
+#![tactic(auto)]
+
 pub mod batch;
 
 ghost use Rattle.std.specs.Prelude.{min, ◌≡◌, true, [], length, drop};
