@@ -1,4 +1,6 @@
 // The cached keys, each with the fields that its places showed.
+#![tactic(auto)]
+
 pub mod cached;
 
 ghost use Rattle.std.specs.Prelude.{◌≡◌, true, [], map, drop, length};
