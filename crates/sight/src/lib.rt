@@ -1,4 +1,6 @@
 // What a session sees at a place, and whether it is known. While the store is away nothing here reads it.
+#![tactic(auto)]
+
 pub mod walk;
 
 ghost use Rattle.std.specs.Prelude.{◌≡◌, true, ◌||◌};

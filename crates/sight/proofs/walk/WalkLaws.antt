@@ -7,7 +7,7 @@ use mathlib.Core.List.{List, [], ◌∷◌, ◌++◌, reverse, append_assoc, app
 use lib.ListN.{length, take, drop, length-take, length-drop, take-append-drop, drop_of_length-le}
 use lib.Seq.{take_all, take-add, drop-drop}
 use Rattle.rules.specs.Values.{Place}
-use Rattle.rules.specs.Changes.{Update, sets, sets_it}
+use Rattle.rules.specs.Changes.{Update, sets_it}
 use Rattle.rules.specs.Tables.{Batch, changes_in}
 use Rattle.rules.specs.Reading.{walk, walk_back}
 use Rattle.rules.proofs.Laws.{or_one, or_zero_lem}
