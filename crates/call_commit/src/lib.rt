@@ -1,4 +1,6 @@
 // Commit: the session's changes go to the buffer, cached keys show them from now on, and the session ends. The store is not touched.
+#![tactic(auto)]
+
 ghost use Rattle.std.specs.Prelude.{◌≡◌, true, List, ℤ};
 ghost use Rattle.rules.specs.Calls.{Commit};
 ghost use Rattle.rules.specs.Effects.{buffered_after};
