@@ -1,4 +1,6 @@
 // What a read shows, with its mark, at the numbers of a session and a key, and what it caches of that: for all tables.
+#![tactic(auto)]
+
 pub mod values;
 
 ghost use Rattle.std.specs.Prelude.{◌≡◌, true, map};
