@@ -1,13 +1,9 @@
 -- Which answers are a read's that is not refused: of a read one that is no refusal, of another call none.
-use Prim.Native.Nat.{ℕ}
-use mathlib.Core.Path.{◌≡◌, refl, sym, ◌∙◌, ap, subst}
+use mathlib.Core.Path.{◌≡◌, refl, sym, ◌∙◌, ap}
 use mathlib.Core.Logic.{◌⊎◌, inl, inr, ⊎_elim}
 use mathlib.Core.Bool.{true, false, true≢false}
-use mathlib.Core.List.{List, [], ◌∷◌}
 use lib.Dec.{eqb}
 use lib.IntN.{ℤ}
-use types.Run.{OneOf, miss}
-use denote.Enum.Declared.{tag_of}
 use Rattle.rules.specs.Calls.{Call, call_number}
 use Rattle.rules.specs.Calls as C
 use Rattle.answers.specs.View.{view_answer, is_refused}
@@ -15,7 +11,6 @@ use Rattle.answers.specs.Own.{is_answer_of}
 use Rattle.answers.specs.declared.Mark.{Mark}
 use Rattle.answers.specs.declared.Answer.{Answer}
 use Rattle.answers.specs.declared.Answer.TheVariants.{Refused, Done, Begun, Read, Changed, Committed, Advanced, Taken, Applied, Deleted, Swept, Reported}
-use Rattle.answers.specs.contracts.Answer.{the_type}
 use Rattle.call_read.specs.Shows.{is_read}
 
 read_or_not : (a : Answer) → ((m : Mark) × (a ≡ Read m)) ⊎ (is_read a ≡ false)
@@ -32,15 +27,9 @@ read_or_not (Deleted b) = inr refl
 read_or_not (Swept n) = inr refl
 read_or_not (Reported a b c) = inr refl
 
-unless_read : (a : Answer) → ((m : Mark) → a ≡ Read m → ⊥) → is_read a ≡ false
+-- an answer that is no read of any mark
+pub unless_read : (a : Answer) → ((m : Mark) → a ≡ Read m → ⊥) → is_read a ≡ false
 unless_read a never = ⊎_elim (λ x. absurd (never x.0 x.1)) (λ e. e) (read_or_not a)
-
--- the places of all variants but that of a read
-abbrev others : List ℕ
-others = 0 ∷ 1 ∷ 2 ∷ 4 ∷ 5 ∷ 6 ∷ 7 ∷ 8 ∷ 9 ∷ 10 ∷ 11 ∷ []
-
-pub other_unread : (a : Answer) → OneOf others (tag_of the_type a) → is_read a ≡ false
-other_unread a h = unless_read a (λ m e. miss others 3 tt (subst (λ x. OneOf others (tag_of the_type x)) e h))
 
 pub refused_unread : (a : Answer) → is_refused (view_answer a) ≡ true → is_read a ≡ false
 refused_unread a h = unless_read a (λ m e. true≢false (sym h ∙ ap (λ x. is_refused (view_answer x)) e))

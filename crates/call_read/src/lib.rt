@@ -1,4 +1,6 @@
 // Read: the fields of a key's places go into the lent words, the session gets shared leases, and the key may be cached.
+#![tactic(auto)]
+
 pub mod admission;
 
 ghost use Rattle.std.specs.Prelude.{◌≡◌, true};
