@@ -1,4 +1,6 @@
 // Change: a session changes a field, under an exclusive lease on its document.
+#![tactic(auto)]
+
 ghost use Rattle.std.specs.Prelude.{◌≡◌, true, false, not, ◌&&◌, ◌||◌, List, [], ◌∷◌, ℤ};
 ghost use Rattle.rules.specs.Values.{nat_of};
 ghost use Rattle.rules.specs.Changes.{is_set, kind_of, meets, place_of, update_of};
