@@ -10,7 +10,6 @@ use mir.Val.{SFits}
 use mir.Facts.{to_z-of_z}
 use Rattle.rules.proofs.KeptTest.{eq_z_is}
 use Rattle.rules.specs.Limits.{member_limit}
-use Rattle.rules.specs.Values as S
 use Rattle.rules.specs.Values.{eq_z, fits32, kind_of_field, values_of}
 use Rattle.rules.specs.Changes.{Kind, change, field_of}
 use Rattle.lists.specs.Table.{counted, table_form}

@@ -1,4 +1,6 @@
 // A field of a document, its six changes, and the eight words that show it.
+#![tactic(auto)]
+
 ghost use Rattle.std.specs.Prelude.{◌≡◌, true, cond, ◌++◌, ◌≤◌, ◌<◌, leb, pos, ◌+ℤ◌, length, get_or, drop};
 ghost use Rattle.rules.specs.Limits.{member_limit, words_per_field};
 ghost use Rattle.rules.specs.Values as S;
