@@ -1,4 +1,6 @@
 // One change of one place, and the changes of a session in their order.
+#![tactic(auto)]
+
 ghost use Rattle.std.specs.Prelude.{◌≤◌, ◌≡◌, true, [], length, take, drop};
 ghost use Rattle.rules.specs.Limits.{change_limit};
 ghost use Rattle.rules.specs.Lists.{is_empty, pushed};
