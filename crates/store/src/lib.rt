@@ -1,4 +1,6 @@
 // The data store: the field of every place.
+#![tactic(auto)]
+
 ghost use Rattle.std.specs.Prelude.{◌≡◌, true, cond, [], ◌∷◌, ◌*◌};
 ghost use Rattle.rules.specs.Limits.{document_count, field_count};
 ghost use Rattle.rules.specs.Values.{absent, in_range};
