@@ -1,4 +1,6 @@
 // The store's rows of applied sessions, all of them or those that a sweep removes.
+#![tactic(auto)]
+
 ghost use Rattle.std.specs.Prelude.{◌≡◌, true, not, cond, [], eqb, length};
 ghost use Rattle.rules.specs.Limits.{row_limit};
 ghost use Rattle.rules.specs.Lists.{has, keep, pushed};
