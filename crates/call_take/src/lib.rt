@@ -1,4 +1,6 @@
 // Take: the worker gets the oldest buffered session into its hand, and the queue lease.
+#![tactic(auto)]
+
 ghost use Rattle.std.specs.Prelude.{◌≡◌, true, List, ℤ};
 ghost use Rattle.rules.specs.Calls.{Take};
 ghost use Rattle.plant.specs.View.{plant_form};
