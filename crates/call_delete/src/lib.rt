@@ -1,4 +1,6 @@
 // Delete: the session in the worker's hand leaves the buffer, the hand is empty, and a queue lease of the worker's own ends.
+#![tactic(auto)]
+
 ghost use Rattle.std.specs.Prelude.{◌≡◌, true, List, ℤ};
 ghost use Rattle.rules.specs.Calls.{Delete};
 ghost use Rattle.plant.specs.View.{plant_form};
