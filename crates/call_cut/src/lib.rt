@@ -1,4 +1,6 @@
 // Cut: the worker's hand is empty, and a queue lease of its own runs on in nobody's name.
+#![tactic(auto)]
+
 ghost use Rattle.std.specs.Prelude.{◌≡◌, true, List, ℤ};
 ghost use Rattle.rules.specs.Calls.{Cut};
 ghost use Rattle.plant.specs.View.{plant_form};
