@@ -1,4 +1,6 @@
 // Apply: the worker sends the session in its hand to the store, and the call's fate says what becomes of that.
+#![tactic(auto)]
+
 ghost use Rattle.std.specs.Prelude.{◌≡◌, true, cond, ◌&&◌, not, List, ℤ};
 ghost use Rattle.rules.specs.Tables.{full, replied};
 ghost use Rattle.rules.specs.Calls.{Apply};
