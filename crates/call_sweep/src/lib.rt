@@ -1,4 +1,6 @@
 // Sweep: of the rows that may go the first sixteen are removed from the store.
+#![tactic(auto)]
+
 ghost use Rattle.std.specs.Prelude.{◌≡◌, true, cond, List, ℤ, take};
 ghost use Rattle.rules.specs.Limits.{sweep_limit};
 ghost use Rattle.rules.specs.Lists.{keep, pushed};
