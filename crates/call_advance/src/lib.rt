@@ -1,4 +1,6 @@
 // Advance: the clock goes on by a number of ticks, and what is due lapses.
+#![tactic(auto)]
+
 ghost use Rattle.std.specs.Prelude.{◌≡◌, true, cond, List, ℤ, ltb, ◌+◌, suc};
 ghost use Rattle.rules.specs.Limits.{advance_limit, last_tick};
 ghost use Rattle.rules.specs.Values.{below, nat_of};
