@@ -1,4 +1,6 @@
 // Store: the data store is near or away from now on.
+#![tactic(auto)]
+
 ghost use Rattle.std.specs.Prelude.{◌≡◌, true, List, ℤ};
 ghost use Rattle.rules.specs.Calls.{Store};
 ghost use Rattle.plant.specs.View.{plant_form};
