@@ -1,4 +1,6 @@
 // Load: one change is made to the store itself, before the first session.
+#![tactic(auto)]
+
 ghost use Rattle.std.specs.Prelude.{◌≡◌, true, List, ℤ};
 ghost use Rattle.rules.specs.Calls.{Load};
 ghost use Rattle.plant.specs.View.{plant_form};
