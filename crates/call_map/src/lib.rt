@@ -1,4 +1,6 @@
 // Map: a key is defined as one to four places, before the first session.
+#![tactic(auto)]
+
 ghost use Rattle.std.specs.Prelude.{◌≡◌, true, List, ℤ};
 ghost use Rattle.rules.specs.Calls.{Map};
 ghost use Rattle.plant.specs.View.{plant_form};
