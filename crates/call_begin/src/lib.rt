@@ -1,4 +1,6 @@
 // Begin: a new session gets the next number, and a slot that is free or whose session is doomed.
+#![tactic(auto)]
+
 ghost use Rattle.std.specs.Prelude.{◌≡◌, true, not, ◌&&◌, List, leb, ℤ, length};
 ghost use Rattle.rules.specs.Limits.{slot_limit};
 ghost use Rattle.rules.specs.Lists.{any};
