@@ -1,4 +1,6 @@
 // Abandon: the session ends, and its changes with it.
+#![tactic(auto)]
+
 ghost use Rattle.std.specs.Prelude.{◌≡◌, true, List, ℤ};
 ghost use Rattle.rules.specs.Calls.{Abandon};
 ghost use Rattle.plant.specs.View.{plant_form};
