@@ -1,4 +1,6 @@
 // Report: how many documents the session holds shared and how many exclusively, and how many changes it has.
+#![tactic(auto)]
+
 ghost use Rattle.std.specs.Prelude.{◌≡◌, true, List, ℤ};
 ghost use Rattle.rules.specs.Calls.{Report};
 ghost use Rattle.answers.specs.Own.{is_answer_of};
