@@ -1,4 +1,6 @@
 // The bytes kept of a line that is not ended yet, and the end of a line in a piece of input.
+#![tactic(auto)]
+
 ghost use Rattle.std.specs.Prelude.{◌-◌, min, ◌≡◌, true, [], ◌++◌, take};
 ghost use Rattle.rules.specs.Lists.{is_empty};
 ghost use Rattle.line_format.specs.Bytes.{line_limit};
