@@ -1,4 +1,6 @@
 // A line read into the call that it says, or into the refusal that it meets before the plant is asked.
+#![tactic(auto)]
+
 pub mod columns;
 
 ghost use Rattle.std.specs.Prelude.{◌≡◌, [], ◌∷◌, ◌≤◌, length, drop};
