@@ -1,6 +1,6 @@
 -- Columns one after the other, and the line that they make.
 use mathlib.Core.Path.{◌≡◌, refl, sym, ◌∙◌, ap}
-use mathlib.Core.Bool.{Bool, true, false, not}
+use mathlib.Core.Bool.{Bool, true, false}
 use mathlib.Core.List.{List, [], ◌∷◌, ◌++◌, append_assoc, append-nil, map}
 use Prim.Native.Nat.{ℕ, ◌+◌, ◌-◌, ◌*◌, ◌/◌, ◌≤◌, ◌<◌, ◌^◌}
 use native.Mathlib.Numerals.{add-one}
@@ -14,7 +14,7 @@ use mir.Syntax.{w32}
 use mir.Val.{to_z, of_z}
 use mir.Facts.{to_z-of_z}
 use borrow.Author.Rules.{sfits_of}
-use borrow.Author.Tests.{le-leb, lt-leb, leb-true, leb-false, not-true, not-false}
+use borrow.Author.Tests.{le-leb, lt-leb, leb-true, leb-false}
 use borrow.Rule.Slice.PartMut.{put_mid}
 use Rattle.rules.proofs.Laws.{by_case}
 use Rattle.rules.specs.Refusals.{refusal_number}
@@ -165,14 +165,14 @@ module _ (a : Answer) (t : Told) (ws : List ℤ) (shown n : ℕ) (tells : Tells 
   width = ap length line_is ∙ line-length t ws n (ap length tells.numbers ∙ sym tells.count) shows.few
 
   module _ (v : List ℕ) (fit : Bool) (e : fit ≡ leb (line_width t.count n) (length v)) where
-    pub no_room_lem : not fit ≡ true → (v ≡ printed line v) × (0 ≡ taken line v)
+    pub no_room_lem : fit ≡ false → (v ≡ printed line v) × (0 ≡ taken line v)
     unfolding printed taken
-    no_room_lem h = let q : leb (length line) (length v) ≡ false = rw width (sym e ∙ not-true fit h) in (rw q refl, rw q refl)
+    no_room_lem h = let q : leb (length line) (length v) ≡ false = rw width (sym e ∙ h) in (rw q refl, rw q refl)
 
-    pub line-printed : not fit ≡ false → (vs : List ℕ) (r : ℕ) → vs ≡ printed (line_of t (take n ws)) v → r ≡ line_width t.count n → (vs ≡ printed line v) × (r ≡ taken line v)
+    pub line-printed : fit ≡ true → (vs : List ℕ) (r : ℕ) → vs ≡ printed (line_of t (take n ws)) v → r ≡ line_width t.count n → (vs ≡ printed line v) × (r ≡ taken line v)
     unfolding taken
     line-printed h vs r p q =
-        let b : leb (length line) (length v) ≡ true = rw width (sym e ∙ not-false fit h) in
+        let b : leb (length line) (length v) ≡ true = rw width (sym e ∙ h) in
         (p ∙ ap (λ (l : List ℕ). printed l v) (sym line_is), q ∙ rw b (sym width))
 
 -- whoever lends so many bytes has room for every line
@@ -195,5 +195,5 @@ module _ (count n room : ℕ) where
       (λ q. q ∙ sym (le-leb (line_width count n) room (omega (arith, leb-true n m q))))
       (λ q. q ∙ sym (lt-leb (line_width count n) room (omega (arith, leb-false n m q))))
 
-  pub room_is : (fit : Bool) → fit ≡ leb (line_width count n) room → not fit ≡ false → line_width count n ≤ room
-  room_is fit e h = leb-true (line_width count n) room (sym e ∙ not-false fit h)
+  pub room_is : (fit : Bool) → fit ≡ leb (line_width count n) room → fit ≡ true → line_width count n ≤ room
+  room_is fit e h = leb-true (line_width count n) room (sym e ∙ h)

@@ -1,4 +1,6 @@
 // An answer's line, printed into lent bytes.
+#![tactic(auto)]
+
 pub mod columns;
 pub mod told;
 
