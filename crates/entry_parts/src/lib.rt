@@ -1,5 +1,7 @@
 // Over all fifteen calls: what a call answers that is no session's, and the sessions where a refusal ends one. The arms of a session's calls,
 // and those that write tables, are the entry's.
+#![tactic(auto)]
+
 ghost use Rattle.std.specs.Prelude.{◌≡◌, true, false, List, ℤ};
 ghost use Rattle.rules.specs.Step.{session_of, ending};
 ghost use Rattle.calls.specs.View.{view_call};
