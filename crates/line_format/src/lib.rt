@@ -1,4 +1,6 @@
 // The line format: its bytes and widths, each by the name that it has in `specs/Bytes`; the definitions are in `specs/`.
+#![tactic(auto)]
+
 pub const NEWLINE: u8 = 10;
 
 pub const SPACE: u8 = 32;
