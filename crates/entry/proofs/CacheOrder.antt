@@ -11,7 +11,6 @@ use Rattle.rules.proofs.Laws.{and_true}
 use Rattle.rules.proofs.KeptTest.{kept_iff}
 use Rattle.rules.proofs.CacheOrder as R
 use Rattle.plant.specs.View.{view_plant, plant_form, kept_plant}
-use Rattle.plant.specs.declared.Plant.{Plant}
 use Rattle.entry.specs.Demand3.{left, turns_of, exchanges_of}
 use Rattle.entry.specs.CacheOrder.{InReadOrder, OldestGivesWay, CommitCachesNone}
 use Rattle.entry.proofs.Demand3.{from_setup}

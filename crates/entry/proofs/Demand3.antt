@@ -17,7 +17,7 @@ use Rattle.plant.specs.declared.Plant.{Plant}
 use Rattle.answers.specs.View.{view_answer}
 use Rattle.calls.specs.View.{view_call}
 use Rattle.entry.specs.Ran.{Ran}
-use Rattle.entry.specs.Demand3.{Event, Runs, left, noted, calls_of, turns_of, exchanges_of, Drains, Holds, Demand3}
+use Rattle.entry.specs.Demand3.{Event, Runs, left, noted, calls_of, turns_of, exchanges_of, Drains, Demand3}
 
 abbrev pub world : Plant → History → World
 world p h = record { plant = view_plant p; history = h }

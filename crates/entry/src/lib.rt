@@ -1,4 +1,6 @@
 // The one entry: any call, on the plant, with words lent to it, or calls one after the other.
+#![tactic(auto)]
+
 ghost use Rattle.std.specs.Prelude.{◌≡◌, true, length, take};
 ghost use Rattle.plant.specs.View.{plant_form, kept_plant};
 ghost use Rattle.answers.specs.View.{view_answer, is_refused};
