@@ -1,4 +1,6 @@
 // What calls were told, printed into lent bytes: a line for each, and one for a line of input that says no call.
+#![tactic(auto)]
+
 ghost use Rattle.std.specs.Prelude.{◌*◌, ◌≤◌, ◌≡◌, true, length, take};
 ghost use Rattle.line_format.specs.Lines.{faulty};
 ghost use Rattle.plant.specs.View.{kept_plant};
