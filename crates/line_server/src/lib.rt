@@ -1,5 +1,7 @@
 // A server of lines: it takes input in pieces of any size, answers each line once byte 10 has ended it, and keeps of a line that is not
 // ended its first bytes.
+#![tactic(auto)]
+
 ghost use Rattle.std.specs.Prelude.{◌+◌, ◌<◌, ◌≤◌, ◌≡◌, true, [], ◌++◌, length};
 ghost use Rattle.rules.specs.Tables.{setup};
 ghost use Rattle.line_format.specs.Lines.{said};

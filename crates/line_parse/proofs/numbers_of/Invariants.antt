@@ -1,4 +1,4 @@
--- `numbers_of` meets its contract.
+-- The invariant and the measure of the loop of `numbers_of`.
 use Prim.Native.Nat.{◌-◌}
 use Rattle.line_parse.proofs.NumberLaws.{Collecting}
 use Rattle.line_parse.proofs.numbers_of.Given as goal

@@ -1,4 +1,4 @@
--- `line_end` meets its contract.
+-- The invariant and the measure of the loop of `line_end`.
 use Prim.Native.Nat.{◌-◌}
 use lib.ListN.{length}
 use Rattle.line_pending.proofs.Ending.{ToCome}

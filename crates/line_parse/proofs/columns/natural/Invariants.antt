@@ -1,4 +1,4 @@
--- `natural` meets its contract.
+-- The invariant and the measure of the loop of `natural`.
 use Prim.Native.Nat.{◌-◌}
 use Rattle.line_parse.proofs.columns.ColumnLaws.{Reading}
 use Rattle.line_parse.proofs.columns.natural.Given as goal

@@ -1,4 +1,4 @@
--- `past_spaces` meets its contract.
+-- The invariant and the measure of the loop of `past_spaces`.
 use Prim.Native.Nat.{◌-◌}
 use lib.ListN.{length}
 use Rattle.line_parse.proofs.columns.ColumnLaws.{Passing}

@@ -1,4 +1,4 @@
--- `blank` meets its contract.
+-- The invariant and the measure of the loop of `blank`.
 use Prim.Native.Nat.{◌-◌}
 use lib.ListN.{replicate}
 use Rattle.lists.proofs.Loops.{Copying}

@@ -1,4 +1,4 @@
--- `digits` meets its contract.
+-- The invariant and the measure of the loop of `digits`.
 use Rattle.line_format.specs.Bytes.{number_width}
 use Rattle.line_print.proofs.columns.ColumnLaws.{Filling}
 use Rattle.line_print.proofs.columns.digits.Given as goal
