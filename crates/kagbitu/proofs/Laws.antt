@@ -1,94 +1,91 @@
 -- What the code's tests of what a call answered say of it, and the bytes that a part leaves unused.
-use Prim.Native.Nat.{ℕ, zero, suc, ◌+◌, ◌-◌, ◌≤◌, ◌<◌, ◌^◌}
-use native.Mathlib.Nat.{min-eq_left, min-eq_right}
+use Prim.Native.Nat.{ℕ, zero, suc, ◌+◌, ◌-◌, ◌≤◌}
+use native.Mathlib.Nat.{min-eq_left}
 use native.Mathlib.Omega.{arith}
-use mathlib.Core.Path.{◌≡◌, refl, sym, ◌∙◌, ap}
-use mathlib.Core.Bool.{Bool, true, false, cond, true≢false}
+use mathlib.Core.Path.{◌≡◌, refl, sym, ◌∙◌, ap, subst}
+use mathlib.Core.Bool.{Bool, true, false, cond, ◌&&◌, true≢false}
 use mathlib.Core.List.{List, [], ◌∷◌}
 use lib.Dec.{eqb}
-use lib.IntN.{ℤ, pos, negsuc, nat_abs}
 use lib.ListN.{length, take, drop, length-take, length-drop}
 use lib.Seq.{drop-drop, take-nil}
-use lib.Signed.{lt_z}
-use mir.Syntax.{w32, w64}
-use mir.Val.{SFits, of_z}
-use mir.Facts.{to_z-of_z}
-use borrow.Author.Tests.{ne_eqb, eqb-false, ltb-true}
-use Rattle.libc.specs.Io.{Moved}
+use borrow.Author.Tests.{ne_eqb, eqb-false, eqb-true, ltb-true}
+use Rattle.std.specs.Prelude.{ℤ, pos, negsuc, Result, Ok, Err, IfOk, if◌then◌else◌, ◌==◌, int_lt}
+use Rattle.std.specs.IoError.{error_kind, os_error_kind, os_error_kinds, kind_in}
+use Rattle.std.specs.declared.io.Error.{Error}
+use Rattle.std.specs.declared.io.ErrorKind.{ErrorKind}
+use Rattle.std.specs.declared.io.ErrorKind.TheVariants.{Uncategorized}
+use Rattle.std.proofs.Common.{inl, inr}
+use Rattle.std.proofs.lemmas.Bool.{or_cases}
+use Rattle.rules.proofs.Laws.{by_case, and_true}
 use Rattle.line_print.specs.Line.{longest}
-use Rattle.arguments.proofs.Numbers.{held}
 use Rattle.kagbitu.specs.Part.{unused, Inside, First, Rest}
 use Rattle.kagbitu.specs.declared.part.Part.{Part}
-use Rattle.kagbitu.specs.Transfer.{passing, transfer_of, CameTo}
+use Rattle.kagbitu.specs.Transfer.{passing, passing_kind, transfer_of, CameTo}
 use Rattle.kagbitu.specs.declared.transfer.Transfer.{Transfer}
 use Rattle.kagbitu.specs.declared.transfer.Transfer.TheVariants as o
 
 -- ── what a call answered ──
-negative : (z e : ℤ) (l : ℕ) → lt_z z (pos 0) ≡ true → transfer_of z e l ≡ cond (passing e) o.Again o.Failed
-negative (pos n) e l h = absurd (omega (arith, ltb-true n 0 h))
-negative (negsuc n) e l h = refl
-
-natural : (z : ℤ) → lt_z z (pos 0) ≡ false → z ≡ pos (nat_abs z)
-natural (pos n) h = refl
-natural (negsuc n) h = absurd (true≢false h)
-
-passes : (e : ℤ) → SFits w32 e → (k : ℕ) → k < 2 ^ 31 → of_z w32 e ≡ k → passing (pos k) ≡ true → passing e ≡ true
-passes (pos n) f k l h p = ap (λ m. passing (pos m)) h ∙ p
-passes (negsuc n) f k l h p = absurd (omega (arith, f.sfits, h, l))
-
-stays : (e : ℤ) → (of_z w32 e ≡ 4 → ⊥) → (of_z w32 e ≡ 11 → ⊥) → passing e ≡ false
-stays (pos n) f g = rw (ne_eqb n 4 f, ne_eqb n 11 g) refl
-stays (negsuc n) f g = refl
-
-module _ (z : ℤ) (w : SFits w64 z) (e : ℤ) (l : ℕ) where
-  module _ (h : lt_z (held z) (pos 0) ≡ true) where
-    fails : transfer_of z e l ≡ cond (passing e) o.Again o.Failed
-    fails = negative z e l (rw (to_z-of_z w) at h)
-
-    pub told_again : SFits w32 e → (k : ℕ) → k < 2 ^ 31 → of_z w32 e ≡ k → passing (pos k) ≡ true → o.Again ≡ transfer_of z e l
-    told_again f k i q p = sym (fails ∙ ap (λ b. cond b o.Again o.Failed) (passes e f k i q p))
-
-    pub told_failed : (of_z w32 e ≡ 4 → ⊥) → (of_z w32 e ≡ 11 → ⊥) → o.Failed ≡ transfer_of z e l
-    told_failed f g = sym (fails ∙ ap (λ b. cond b o.Again o.Failed) (stays e f g))
-
-  module _ (h : lt_z (held z) (pos 0) ≡ false) where
-    count_is : z ≡ pos (nat_abs (held z))
-    count_is = sym (to_z-of_z w) ∙ natural (held z) h
-
-    pub told_end : nat_abs (held z) ≡ 0 → o.End ≡ transfer_of z e l
-    told_end q = sym (ap (λ y. transfer_of y e l) (count_is ∙ ap pos q))
-
-    told_moved : (nat_abs (held z) ≡ 0 → ⊥) → transfer_of (pos (nat_abs (held z))) e l ≡ transfer_of z e l
-    told_moved q = ap (λ y. transfer_of y e l) (sym count_is)
-
-    pub told_some : (nat_abs (held z) ≡ 0 → ⊥) → nat_abs (held z) < l → o.Moved (nat_abs (held z)) ≡ transfer_of z e l
-    told_some q i = sym (rw (ne_eqb (nat_abs (held z)) 0 q, min-eq_left {n = nat_abs (held z)} {m = l} (omega (arith, i))) refl) ∙ told_moved q
-
-    pub told_all : (nat_abs (held z) ≡ 0 → ⊥) → l ≤ nat_abs (held z) → o.Moved l ≡ transfer_of z e l
-    told_all q i = sym (rw (ne_eqb (nat_abs (held z)) 0 q, min-eq_right {n = l} {m = nat_abs (held z)} i) refl) ∙ told_moved q
-
 -- bytes that moved are one or more, and no more than were lent
-some_moved : (z e : ℤ) (l n : ℕ) → Moved l z → o.Moved n ≡ transfer_of z e l → (1 ≤ n) × (n ≤ l)
-some_moved (pos zero) e l n m q = absurd (true≢false (ap is_moved q))
-  where
-    is_moved : Transfer → Bool
-    is_moved (o.Moved k) = true
-    is_moved o.End = false
-    is_moved o.Again = false
-    is_moved o.Failed = false
-some_moved (pos (suc k)) e l n m q =
+some_moved : (a : Result ℕ Error) (l n : ℕ) → IfOk a (λ k. k ≤ l) → o.Moved n ≡ transfer_of a l → (1 ≤ n) × (n ≤ l)
+some_moved (Ok zero) l n m q = let e : o.Moved n ≡ o.End = q in cc
+some_moved (Ok (suc k)) l n m q =
     let one : (suc k ≡ 0 → ⊥) = λ x. omega (arith, x) in
     let p = rw (ne_eqb (suc k) 0 one) at q in
     let i : n ≡ suc k = cc (p, min-eq_left {n = suc k} {m = l} m) in
     (omega (arith, i), omega (arith, i, m))
-some_moved (negsuc k) e l n m q = go (passing e) q
+some_moved (Err e) l n m q = go (passing_kind (error_kind e)) q
   where
-    go : (b : Bool) → o.Moved n ≡ cond b o.Again o.Failed → (1 ≤ n) × (n ≤ l)
+    go : (b : Bool) → o.Moved n ≡ cond b o.Again (o.Failed e) → (1 ≤ n) × (n ≤ l)
     go true x = let y : ◌≡◌ {A = ℕ} 0 1 = cc in absurd (omega (arith, y))
     go false x = let y : ◌≡◌ {A = ℕ} 0 1 = cc in absurd (omega (arith, y))
 
 pub moved_within : (l n : ℕ) (r : Transfer) → CameTo l r → r ≡ o.Moved n → (1 ≤ n) × (n ≤ l)
-moved_within l n r a q = some_moved a.got a.error l n a.moved (sym q ∙ a.told)
+moved_within l n r a q = some_moved a.answer l n a.moved (sym q ∙ a.told)
+
+-- ── the kinds of errors, and their numbers ──
+-- a number that has a kind of a passing error is one of a passing error, as far as these rows say
+abbrev rows_fit : List (ℕ × ErrorKind) → Bool
+rows_fit [] = true
+rows_fit (row ∷ rows) = cond (passing_kind row.1) (passing (pos row.0)) true && rows_fit rows
+
+number_fits : (rows : List (ℕ × ErrorKind)) (n : ℕ) → rows_fit rows ≡ true → passing_kind (kind_in rows n) ≡ true → passing (pos n) ≡ true
+number_fits [] n f h = absurd (true≢false (sym h))
+number_fits (row ∷ rows) n f h =
+    by_case (n == row.0)
+    (λ t.
+    let k : passing_kind row.1 ≡ true = subst (λ b. passing_kind (if b then row.1 else kind_in rows n) ≡ true) t h in
+    let p : passing (pos row.0) ≡ true = subst (λ b. cond b (passing (pos row.0)) true ≡ true) k (and_true _ _ f).0 in
+    subst (λ m. passing (pos m) ≡ true) (sym (eqb-true n row.0 t)) p)
+    (λ t. number_fits rows n (and_true _ _ f).1 (subst (λ b. passing_kind (if b then row.1 else kind_in rows n) ≡ true) t h))
+
+number_in_rows : (n : ℕ) → passing_kind (kind_in os_error_kinds n) ≡ passing (pos n)
+number_in_rows n =
+    by_case (passing (pos n))
+    (λ t.
+    elim (or_cases (eqb n 4) (eqb n 11) t) [
+      | inl e ↦ subst (λ m. passing_kind (kind_in os_error_kinds m) ≡ passing (pos m)) (sym (eqb-true n 4 e)) refl
+      | inr e ↦ subst (λ m. passing_kind (kind_in os_error_kinds m) ≡ passing (pos m)) (sym (eqb-true n 11 e)) refl
+    ])
+    (λ f.
+    by_case (passing_kind (kind_in os_error_kinds n))
+    (λ t. absurd (true≢false (sym (number_fits os_error_kinds n refl t) ∙ f)))
+    (λ t. t ∙ sym f))
+
+kind_of_number : (n : ℕ) → os_error_kind (pos n) ≡ kind_in os_error_kinds n
+unfolding os_error_kind
+kind_of_number n =
+    by_case (int_lt (pos n) (pos 0))
+    (λ t. absurd (omega (arith, ltb-true n 0 t)))
+    (λ f. subst (λ b. (if b then Uncategorized else kind_in os_error_kinds n) ≡ kind_in os_error_kinds n) (sym f) refl)
+
+passing_number : (code : ℤ) → passing_kind (os_error_kind code) ≡ passing code
+unfolding os_error_kind
+passing_number (negsuc n) = refl
+passing_number (pos n) = ap passing_kind (kind_of_number n) ∙ number_in_rows n
+
+-- what is told of a kind holds of its number
+pub told_of_number : (k : ErrorKind) (b : Bool) → b ≡ passing_kind k → (code : ℤ) → k ≡ os_error_kind code → b ≡ passing code
+told_of_number k b h code e = h ∙ ap passing_kind e ∙ passing_number code
 
 -- ── a part ──
 drop-take : {A : Type 0} (m n : ℕ) (l : List A) → drop m (take n l) ≡ take (n - m) (drop m l)

@@ -1,6 +1,9 @@
--- What a read or a write came to, by what it answered, the number of the error, and how many bytes were lent.
-use Rattle.std.specs.Prelude.{ℕ, min, ◌≡◌, Bool, cond, ◌||◌, eqb, ℤ, pos, negsuc}
-use Rattle.libc.specs.Io.{Moved}
+-- What a read or a write came to, by what it answered and how many bytes were lent.
+use Rattle.std.specs.Prelude.{ℕ, min, ◌≤◌, ◌≡◌, Bool, true, false, cond, ◌||◌, eqb, ℤ, pos, negsuc, Result, Ok, Err, IfOk}
+use Rattle.std.specs.IoError.{error_kind}
+use Rattle.std.specs.declared.io.Error.{Error}
+use Rattle.std.specs.declared.io.ErrorKind.{ErrorKind}
+use Rattle.std.specs.declared.io.ErrorKind.TheVariants.{Interrupted, WouldBlock}
 use Rattle.kagbitu.specs.declared.transfer.Transfer.{Transfer}
 use Rattle.kagbitu.specs.declared.transfer.Transfer.TheVariants as o
 
@@ -11,19 +14,28 @@ interrupted = 4
 abbrev pub would_wait : ℕ
 would_wait = 11
 
--- errors after which the same is asked again
+-- errors after which the same is asked again, by the system's numbers
 abbrev pub passing : ℤ → Bool
 passing (pos n) = eqb n interrupted || eqb n would_wait
-passing (negsuc n) = Bool.false
+passing (negsuc n) = false
 
--- 0 is the end, and any other number that is not negative so many bytes; a negative one is a failure, passing or not
-abbrev pub transfer_of : ℤ → ℤ → ℕ → Transfer
-transfer_of (pos n) error lent = cond (eqb n 0) o.End (o.Moved (min n lent))
-transfer_of (negsuc n) error lent = cond (passing error) o.Again o.Failed
+-- and by their kinds
+abbrev pub passing_kind : ErrorKind → Bool
+passing_kind Interrupted = true
+passing_kind WouldBlock = true
+passing_kind _ = false
+
+-- 0 bytes are the end, and any other number so many bytes; an error is a failure, passing or not
+abbrev pub transfer_of : Result ℕ Error → ℕ → Transfer
+transfer_of (Ok n) lent = cond (eqb n 0) o.End (o.Moved (min n lent))
+transfer_of (Err e) lent = cond (passing_kind (error_kind e)) o.Again (o.Failed e)
 
 -- what a call that was lent so many bytes came to
 pub record CameTo (lent : ℕ) (r : Transfer) : Type 0 where
-  pub got : ℤ
-  pub error : ℤ
-  pub moved : Moved lent got
-  pub told : r ≡ transfer_of got error lent
+  pub answer : Result ℕ Error
+  pub moved : IfOk answer (λ n. n ≤ lent)
+  pub told : r ≡ transfer_of answer lent
+
+-- it failed
+abbrev pub IsFailed : Transfer → Type 0
+IsFailed r = (e : Error) × (r ≡ o.Failed e)

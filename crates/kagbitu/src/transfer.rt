@@ -1,8 +1,10 @@
 // What a read or a write answered, told apart.
-ghost use Rattle.std.specs.Prelude.{◌≡◌};
-ghost use Rattle.kagbitu.specs.Transfer.{transfer_of};
+ghost use Rattle.std.specs.Prelude.{◌≡◌, ℤ};
+ghost use Rattle.std.specs.IoError.{os_error_kind};
+ghost use Rattle.kagbitu.specs.Transfer.{passing, passing_kind, transfer_of};
 
-use libc::{EAGAIN, EINTR};
+use std::io;
+use std::io::ErrorKind;
 
 // So many bytes moved, at most as many as were lent; none, at the end of input; none yet, so that the same is asked again; or it failed.
 #[derive(Clone, Copy)]
@@ -10,22 +12,29 @@ pub enum Transfer {
     Moved(usize),
     End,
     Again,
-    Failed,
+    Failed(io::Error),
 }
 
-pub fn told(got: isize, error: i32, lent: usize) -> Transfer
-    ensures { result ≡ transfer_of got error lent }
+// Whether the same is asked again after an error of this kind.
+fn is_passing(kind: ErrorKind) -> bool
+    ensures kind { result ≡ passing_kind kind }
+    ensures number { (code : ℤ) → kind ≡ os_error_kind code → result ≡ passing code }
 {
-    if got < 0 {
-        if error == EINTR {
-            return Transfer::Again;
+    matches!(kind, ErrorKind::Interrupted | ErrorKind::WouldBlock)
+}
+
+pub fn told(answer: io::Result<usize>, lent: usize) -> Transfer
+    ensures { result ≡ transfer_of answer lent }
+{
+    let n = match answer {
+        Ok(n) => n,
+        Err(error) => {
+            if is_passing(error.kind()) {
+                return Transfer::Again;
+            }
+            return Transfer::Failed(error);
         }
-        if error == EAGAIN {
-            return Transfer::Again;
-        }
-        return Transfer::Failed;
-    }
-    let n = got as usize;
+    };
     if n == 0 {
         return Transfer::End;
     }
