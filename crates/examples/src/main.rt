@@ -1,10 +1,21 @@
 // The worked examples of data/: the lines of each are served on a plant of their own, in pieces of a size of their own because input may
 // be cut anywhere, and the answers are compared with those that stand beside the lines.
-ghost use Rattle.std.specs.Prelude.{ℕ, ◌≤◌, ◌<◌, ◌≡◌, List, [], ◌++◌};
+#![tactic(auto)]
+
+ghost use Rattle.std.specs.Prelude.{ℕ, ◌≤◌, ◌<◌, ◌≡◌, List, [], ◌++◌, length};
 ghost use Rattle.examples.specs.Comparison.{Exactly, Matches, Compared};
 
-use libc::STDOUT_FILENO;
 use line_server::Server;
+use std::rt::Files;
+use std::{fs, io};
+
+const ROOM: usize = 65536;
+
+fn answer_buffer() -> [u8; ROOM]
+    ensures { 65536 ≡ length result }
+{
+    [0; ROOM]
+}
 
 // How many of the bytes that have come are the first of the answers, and whether all are.
 #[derive(Clone, Copy)]
@@ -67,7 +78,7 @@ fn serve(lines: &[u8], size: usize, answers: &[u8]) -> Match
     requires { 0 < size }
     ensures { Compared lines.now answers.now result }
 {
-    let mut out = io::large_buffer();
+    let mut out = answer_buffer();
     let mut server = Server::start();
     let mut matched = Match::start();
     let mut at: usize = 0;
@@ -83,108 +94,130 @@ fn serve(lines: &[u8], size: usize, answers: &[u8]) -> Match
     matched.add(answers, &out[..wrote])
 }
 
-fn say(name: &[u8], same: bool, at: usize) {
-    io::write_all(STDOUT_FILENO, name);
-    if same {
-        io::write_all(STDOUT_FILENO, b" same\n");
-        return;
-    }
-    io::write_all(STDOUT_FILENO, b" differs at byte ");
-    io::print_decimal(STDOUT_FILENO, at as u64);
-    io::write_all(STDOUT_FILENO, b"\n");
+// Where standard output takes nothing more, the examples that are left are compared and not told.
+fn say(rt: &impl Print, name: &str, same: bool, at: usize) {
+    let _ = if same {
+        println!(rt; "{name} same")
+    } else {
+        println!(rt; "{name} differs at byte {at}")
+    };
 }
 
-fn compare(name: &[u8], lines: i32, answers: i32, size: usize)
+// The system's words for an error, of which `Display` adds the number.
+fn without_number(text: &str) -> &str {
+    match text.rsplit_once(" (os error ") {
+        Some((words, _)) => words,
+        None => text,
+    }
+}
+
+// Says on standard error why a file of an example is not read. Where no memory is left, the number stays.
+fn unread(rt: &(impl Eprint + AllocGlobal), name: &str, error: io::Error) {
+    let _ = match error.to_string(rt.alloc()) {
+        Ok(text) => {
+            let words = without_number(text.as_str());
+            eprintln!(rt; "{name}: {words}")
+        }
+        Err(_) => eprintln!(rt; "{name}: {error}"),
+    };
+}
+
+fn compare(rt: &impl Print, name: &str, lines: &[u8], answers: &[u8], size: usize)
     requires { 0 < size }
 {
-    let mut given = io::large_buffer();
-    let mut expected = io::large_buffer();
-    let n = io::read_full(lines, &mut given);
-    let m = io::read_full(answers, &mut expected);
-    let matched = serve(&given[..n], size, &expected[..m]);
-    say(name, matched.whole(&expected[..m]), matched.at);
+    let matched = serve(lines, size, answers);
+    say(rt, name, matched.whole(answers), matched.at);
 }
 
-fn example(lines: &[u8], answers: &[u8], size: usize)
+fn example(
+    rt: &(impl Files + Print + Eprint + AllocGlobal),
+    lines: &str,
+    answers: &str,
+    size: usize,
+)
     requires { 0 < size }
 {
-    let from = os::open_read(lines);
-    let to = os::open_read(answers);
-    if from < 0 {
-        os::fail(lines);
-        return;
-    }
-    if to < 0 {
-        os::fail(answers);
-        return;
-    }
-    compare(lines, from, to, size);
-    libc::close(from);
-    libc::close(to);
+    let given = match fs::read(rt, lines) {
+        Ok(given) => given,
+        Err(error) => {
+            unread(rt, lines, error);
+            return;
+        }
+    };
+    let expected = match fs::read(rt, answers) {
+        Ok(expected) => expected,
+        Err(error) => {
+            unread(rt, answers, error);
+            return;
+        }
+    };
+    compare(rt, lines, given.as_slice(), expected.as_slice(), size);
 }
 
-fn lines() {
-    example(b"paper.lines", b"paper.answers", 4096);
-    example(b"line-forms.lines", b"line-forms.answers", 1);
-    example(b"empty.lines", b"empty.answers", 65536);
+fn lines(rt: &(impl Files + Print + Eprint + AllocGlobal)) {
+    example(rt, "paper.lines", "paper.answers", 4096);
+    example(rt, "line-forms.lines", "line-forms.answers", 1);
+    example(rt, "empty.lines", "empty.answers", 65536);
 }
 
-fn replies() {
-    example(b"lost-reply.lines", b"lost-reply.answers", 2);
-    example(b"lost-reply-cut.lines", b"lost-reply-cut.answers", 3);
-    example(b"two-hands.lines", b"two-hands.answers", 5);
+fn replies(rt: &(impl Files + Print + Eprint + AllocGlobal)) {
+    example(rt, "lost-reply.lines", "lost-reply.answers", 2);
+    example(rt, "lost-reply-cut.lines", "lost-reply-cut.answers", 3);
+    example(rt, "two-hands.lines", "two-hands.answers", 5);
 }
 
-fn mistakes() {
-    example(b"swept-too-soon.lines", b"swept-too-soon.answers", 7);
+fn mistakes(rt: &(impl Files + Print + Eprint + AllocGlobal)) {
+    example(rt, "swept-too-soon.lines", "swept-too-soon.answers", 7);
     example(
-        b"cached-past-the-buffer.lines",
-        b"cached-past-the-buffer.answers",
+        rt,
+        "cached-past-the-buffer.lines",
+        "cached-past-the-buffer.answers",
         11,
     );
     example(
-        b"doomed-for-nothing.lines",
-        b"doomed-for-nothing.answers",
+        rt,
+        "doomed-for-nothing.lines",
+        "doomed-for-nothing.answers",
         13,
     );
-    example(b"lapsed-commit.lines", b"lapsed-commit.answers", 26);
+    example(rt, "lapsed-commit.lines", "lapsed-commit.answers", 26);
 }
 
-fn limits() {
-    example(b"store-away.lines", b"store-away.answers", 27);
-    example(b"newest-booking.lines", b"newest-booking.answers", 37);
-    example(b"full-buffer.lines", b"full-buffer.answers", 64);
-    example(b"full-rows.lines", b"full-rows.answers", 100);
-    example(b"rows-passed-over.lines", b"rows-passed-over.answers", 29);
+fn limits(rt: &(impl Files + Print + Eprint + AllocGlobal)) {
+    example(rt, "store-away.lines", "store-away.answers", 27);
+    example(rt, "newest-booking.lines", "newest-booking.answers", 37);
+    example(rt, "full-buffer.lines", "full-buffer.answers", 64);
+    example(rt, "full-rows.lines", "full-rows.answers", 100);
+    example(rt, "rows-passed-over.lines", "rows-passed-over.answers", 29);
 }
 
-fn cached_keys() {
-    example(b"full-cache.lines", b"full-cache.answers", 122);
-    example(b"cached-again.lines", b"cached-again.answers", 17);
-    example(b"oldest-updated.lines", b"oldest-updated.answers", 19);
+fn cached_keys(rt: &(impl Files + Print + Eprint + AllocGlobal)) {
+    example(rt, "full-cache.lines", "full-cache.answers", 122);
+    example(rt, "cached-again.lines", "cached-again.answers", 17);
+    example(rt, "oldest-updated.lines", "oldest-updated.answers", 19);
 }
 
-fn rules() {
-    example(b"leases.lines", b"leases.answers", 123);
-    example(b"fields.lines", b"fields.answers", 124);
-    example(b"recalled-lot.lines", b"recalled-lot.answers", 51);
-    example(b"refusals.lines", b"refusals.answers", 256);
-    example(b"refusal-order.lines", b"refusal-order.answers", 1000);
+fn rules(rt: &(impl Files + Print + Eprint + AllocGlobal)) {
+    example(rt, "leases.lines", "leases.answers", 123);
+    example(rt, "fields.lines", "fields.answers", 124);
+    example(rt, "recalled-lot.lines", "recalled-lot.answers", 51);
+    example(rt, "refusals.lines", "refusals.answers", 256);
+    example(rt, "refusal-order.lines", "refusal-order.answers", 1000);
 }
 
 // The answers of these are wrong on purpose.
-fn differences() {
-    example(b"differs-byte.lines", b"differs-byte.answers", 9);
-    example(b"differs-short.lines", b"differs-short.answers", 4096);
-    example(b"differs-long.lines", b"differs-long.answers", 1);
+fn differences(rt: &(impl Files + Print + Eprint + AllocGlobal)) {
+    example(rt, "differs-byte.lines", "differs-byte.answers", 9);
+    example(rt, "differs-short.lines", "differs-short.answers", 4096);
+    example(rt, "differs-long.lines", "differs-long.answers", 1);
 }
 
-fn main() {
-    lines();
-    replies();
-    mistakes();
-    limits();
-    cached_keys();
-    rules();
-    differences();
+fn main(rt: HostRuntime) {
+    lines(&rt);
+    replies(&rt);
+    mistakes(&rt);
+    limits(&rt);
+    cached_keys(&rt);
+    rules(&rt);
+    differences(&rt);
 }
