@@ -25,10 +25,14 @@ passing_kind Interrupted = true
 passing_kind WouldBlock = true
 passing_kind _ = false
 
+-- an error, passing or not
+abbrev pub failed_by : Bool → Error → Transfer
+failed_by passes e = cond passes o.Again (o.Failed e)
+
 -- 0 bytes are the end, and any other number so many bytes; an error is a failure, passing or not
 abbrev pub transfer_of : Result ℕ Error → ℕ → Transfer
 transfer_of (Ok n) lent = cond (eqb n 0) o.End (o.Moved (min n lent))
-transfer_of (Err e) lent = cond (passing_kind (error_kind e)) o.Again (o.Failed e)
+transfer_of (Err e) lent = failed_by (passing_kind (error_kind e)) e
 
 -- what a call that was lent so many bytes came to
 pub record CameTo (lent : ℕ) (r : Transfer) : Type 0 where

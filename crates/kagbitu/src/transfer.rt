@@ -1,7 +1,8 @@
 // What a read or a write answered, told apart.
-ghost use Rattle.std.specs.Prelude.{◌≡◌, ℤ};
-ghost use Rattle.std.specs.IoError.{os_error_kind};
-ghost use Rattle.kagbitu.specs.Transfer.{passing, passing_kind, transfer_of};
+ghost use Rattle.std.specs.Prelude.{◌≡◌, ℤ, Err};
+ghost use Rattle.std.specs.IoError.{error_kind, os_error_kind};
+ghost use Rattle.std.specs.declared.io.Error.{Error};
+ghost use Rattle.kagbitu.specs.Transfer.{failed_by, passing, passing_kind, transfer_of};
 
 use std::io;
 use std::io::ErrorKind;
@@ -24,7 +25,8 @@ fn is_passing(kind: ErrorKind) -> bool
 }
 
 pub fn told(answer: io::Result<usize>, lent: usize) -> Transfer
-    ensures { result ≡ transfer_of answer lent }
+    ensures told { result ≡ transfer_of answer lent }
+    ensures number { (error : Error) (code : ℤ) → answer ≡ Err error → error_kind error ≡ os_error_kind code → result ≡ failed_by (passing code) error }
 {
     let n = match answer {
         Ok(n) => n,
