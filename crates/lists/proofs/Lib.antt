@@ -1,4 +1,4 @@
--- General laws: loops, tables through a view, tables by index, forms, lists by their numbers, parts of lists.
+-- General laws: loops, tables through a view, tables by index, forms, lists by their numbers, parts of lists, slices through a view.
 pub mod Loops
 pub mod Views
 pub mod Indexed
@@ -8,3 +8,4 @@ pub mod Ends
 pub mod Sift
 pub mod Walks
 pub mod Parts
+pub mod Iterators
