@@ -1,12 +1,13 @@
 -- The data store through its view: one law for each way out of a method.
-use Prim.Native.Nat.{ℕ, ◌+◌, ◌*◌, ◌<◌, ◌≤◌}
+use Prim.Native.Nat.{ℕ, ◌<◌}
 use native.Mathlib.Omega.{arith}
 use mathlib.Core.Path.{◌≡◌, refl, sym, ◌∙◌, ap, fun_ext}
 use mathlib.Core.Bool.{Bool, true, false, cond, true≢false}
 use mathlib.Core.List.{List, [], ◌∷◌}
 use lib.ListN.{length, get_or, set, replicate}
 use lib.Dec.{eqb}
-use borrow.Author.Tests.{ltb-true, lt-ltb, le-ltb, eqb-true, eqb-false, eq-eqb}
+use Rattle.std.proofs.Common.{Option, Some, None}
+use borrow.Author.Tests.{ltb-true, eqb-true, eqb-false, eq-eqb}
 use Rattle.rules.specs.Limits.{document_count, field_count}
 use Rattle.rules.specs.Lists.{all}
 use Rattle.rules.specs.Values as S
@@ -26,18 +27,6 @@ use Rattle.store.specs.View.{index_of, ranged, view_store, store_form}
 use Rattle.store.specs.declared.Store.{Store}
 
 -- ── the index of a place ──
-pub index_in : (q : Place) → q.document < document_count → q.field < field_count → field_count * q.document + q.field ≡ cond (in_range (view_place q)) (index_of (view_place q)) 256
-unfolding view_place
-index_in q d f = rw (lt-ltb _ _ d, lt-ltb _ _ f)
-
-pub index_no_document : (q : Place) → document_count ≤ q.document → 256 ≡ cond (in_range (view_place q)) (index_of (view_place q)) 256
-unfolding view_place
-index_no_document q d = rw (le-ltb q.document document_count d)
-
-pub index_no_field : (q : Place) → q.document < document_count → field_count ≤ q.field → 256 ≡ cond (in_range (view_place q)) (index_of (view_place q)) 256
-unfolding view_place
-index_no_field q d f = rw (lt-ltb _ _ d, le-ltb q.field field_count f)
-
 bounds : (q : S.Place) → in_range q ≡ true → (q.document < document_count) × (q.field < field_count)
 bounds q e = let h = and_true _ _ e in (ltb-true _ _ h.0, ltb-true _ _ h.1)
 
@@ -56,15 +45,21 @@ same_index q r e f =
     t ∙ sym (both _ _ (eq-eqb _ _ d) (eq-eqb _ _ g)))
     (λ t. t ∙ sym (by_case (same_place q r) (λ u. absurd (eqb-false (index_of q) (index_of r) t (ap index_of (same_place_is q r u)))) (λ u. u)))
 
-module _ (q : S.Place) (i : ℕ) (e : i ≡ cond (in_range q) (index_of q) 256) where
-  pub is_in : i < 256 → in_range q ≡ true
-  is_in h = by_case (in_range q) (λ t. t) (λ t. absurd (omega (arith, rw t at e)))
+abbrev indexed : S.Place → Option ℕ
+indexed q = cond (in_range q) (Some (index_of q)) None
 
-  pub is_index : i < 256 → i ≡ index_of q
-  is_index h = rw (is_in h) at e
+is_out : (q : S.Place) → None ≡ indexed q → in_range q ≡ false
+is_out q e = by_case (in_range q) (λ t. let h = rw t at e in cc) (λ t. t)
 
-  pub is_out : 256 ≤ i → in_range q ≡ false
-  is_out h = by_case (in_range q) (λ t. absurd (omega (arith, rw t at e, index_below q t))) (λ t. t)
+module _ (q : S.Place) (i : ℕ) (e : Some i ≡ indexed q) where
+  is_in : in_range q ≡ true
+  is_in = by_case (in_range q) (λ t. t) (λ t. let h = rw t at e in cc)
+
+  is_index : i ≡ index_of q
+  is_index = let h = rw is_in at e in cc
+
+  is_below : i < 256
+  is_below = rw is_index (index_below q is_in)
 
 -- ── a stock within the places ──
 pub ranged_twice : (s : S.Stock) → ranged (ranged s) ≡ ranged s
@@ -84,41 +79,45 @@ pub empty_form : (f : Field) → field_form f ≡ true → store_form (record { 
 unfolding store_form
 empty_form f e = array_empty 256 field_form f e
 
-module _ (t : Store) (q : Place) (i : ℕ) (e : i ≡ cond (in_range (view_place q)) (index_of (view_place q)) 256) where
-  pub field_past : (r : Field) → 256 ≤ i → view_field r ≡ S.absent → view_field r ≡ view_store t (view_place q)
+module _ (t : Store) (q : Place) where
+  pub field_past : (r : Field) → None ≡ indexed (view_place q) → view_field r ≡ S.absent → view_field r ≡ view_store t (view_place q)
   unfolding view_store ranged
-  field_past r h a = a ∙ rw (is_out (view_place q) i e h)
+  field_past r e a = a ∙ rw (is_out (view_place q) e)
 
-  module _ (l : length t.fields ≡ 256) (d : Field) (h : i < 256) where
+  module _ (i : ℕ) (e : Some i ≡ indexed (view_place q)) (l : length t.fields ≡ 256) (d : Field) where
     pub field_at_lem : view_field (get_or t.fields i d) ≡ view_store t (view_place q)
     unfolding view_store ranged
-    field_at_lem = at_index view_field S.absent t.fields i d (omega arith) ∙ rw (is_in (view_place q) i e h, is_index (view_place q) i e h)
+    field_at_lem =
+        let h = is_below (view_place q) i e in
+        at_index view_field S.absent t.fields i d (omega arith) ∙ rw (is_in (view_place q) i e, is_index (view_place q) i e)
 
     pub field_form_lem : store_form t ≡ true → field_form (get_or t.fields i d) ≡ true
     unfolding store_form
-    field_form_lem f = array_at 256 field_form t.fields i d h f
+    field_form_lem f = array_at 256 field_form t.fields i d (is_below (view_place q) i e) f
 
 -- ── a change ──
-module _ (t : Store) (c : Update) (i : ℕ) (e : i ≡ cond (in_range (view_place c.place)) (index_of (view_place c.place)) 256) where
-  pub changed_past : 256 ≤ i → view_store t ≡ ranged (C.follow (view_store t) (view_update c ∷ []))
+module _ (t : Store) (c : Update) where
+  pub changed_past : None ≡ indexed (view_place c.place) → view_store t ≡ ranged (C.follow (view_store t) (view_update c ∷ []))
   unfolding view_store ranged view_update C.field_after
-  changed_past h =
+  changed_past e =
       fun_ext (λ q. by_case (in_range q)
-      (λ w. rw (w, elsewhere q w (is_out (view_place c.place) i e h)))
+      (λ w. rw (w, elsewhere q w (is_out (view_place c.place) e)))
       (λ w. rw w))
     where
       elsewhere : (q : S.Place) → in_range q ≡ true → in_range (view_place c.place) ≡ false → same_place q (view_place c.place) ≡ false
       elsewhere q w o = by_case (same_place q (view_place c.place)) (λ u. absurd (true≢false (sym w ∙ ap (λ (z : S.Place). in_range z) (same_place_is q (view_place c.place) u) ∙ o))) (λ u. u)
 
-  module _ (l : length t.fields ≡ 256) (d f : Field) (h : i < 256) (a : view_field f ≡ C.field_after (view_place c.place) (view_field (get_or t.fields i d)) (view_update c)) where
+  module _ (i : ℕ) (e : Some i ≡ indexed (view_place c.place)) (l : length t.fields ≡ 256) (d f : Field)
+      (a : view_field f ≡ C.field_after (view_place c.place) (view_field (get_or t.fields i d)) (view_update c)) where
     shown : (q : S.Place) → in_range q ≡ true → view_store (record { fields = set t.fields i f }) q ≡ cond (same_place q (view_place c.place)) (view_field f) (view_store t q)
     unfolding view_store ranged
     shown q w =
+        let h = is_below (view_place c.place) i e in
         rw w (ap (λ (s : ℕ → S.Field). s (index_of q)) (set_index view_field S.absent t.fields i f (omega arith))
-        ∙ rw (is_index (view_place c.place) i e h, same_index q (view_place c.place) w (is_in (view_place c.place) i e h)) refl)
+        ∙ rw (is_index (view_place c.place) i e, same_index q (view_place c.place) w (is_in (view_place c.place) i e)) refl)
 
     own : view_field f ≡ C.field_after (view_place c.place) (view_store t (view_place c.place)) (view_update c)
-    own = a ∙ ap (λ (g : S.Field). C.field_after (view_place c.place) g (view_update c)) (field_at_lem t c.place i e l d h)
+    own = a ∙ ap (λ (g : S.Field). C.field_after (view_place c.place) g (view_update c)) (field_at_lem t c.place i e l d)
 
     other : (q : S.Place) → same_place q (view_place c.place) ≡ false → view_store t q ≡ C.field_after q (view_store t q) (view_update c)
     unfolding C.field_after view_update

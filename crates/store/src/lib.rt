@@ -1,7 +1,7 @@
 // The data store: the field of every place.
 #![tactic(auto)]
 
-ghost use Rattle.std.specs.Prelude.{◌≡◌, true, cond, [], ◌∷◌, ◌*◌};
+ghost use Rattle.std.specs.Prelude.{◌≡◌, true, cond, [], ◌∷◌, ◌*◌, ◌<◌, IfSome};
 ghost use Rattle.rules.specs.Limits.{document_count, field_count};
 ghost use Rattle.rules.specs.Values.{absent, in_range};
 ghost use Rattle.rules.specs.Changes.{follow};
@@ -20,19 +20,15 @@ pub struct Store {
     pub fields: [Field; Store::LIMIT],
 }
 
-// Where a place's field stands, past the end if there is no such place.
-pub fn index_of(q: Place) -> usize
-    ensures { result ≡ cond (in_range (view_place q)) (index_of (view_place q)) (document_count * field_count) }
+// Where a place's field stands, if there is such a place.
+pub fn index_of(q: Place) -> Option<usize>
+    ensures shows { result ≡ cond (in_range (view_place q)) (Some (index_of (view_place q))) None }
+    ensures within { IfSome result (λ i. i < document_count * field_count) }
 {
     let document = q.document as usize;
     let field = q.field as usize;
-    if Store::DOCUMENTS <= document {
-        return Store::LIMIT;
-    }
-    if Store::FIELDS <= field {
-        return Store::LIMIT;
-    }
-    Store::FIELDS * document + field
+    let there = document < Store::DOCUMENTS && field < Store::FIELDS;
+    there.then_some(Store::FIELDS * document + field)
 }
 
 impl Store {
@@ -46,9 +42,8 @@ impl Store {
         ensures shows { view_store result ≡ (λ q. absent) }
         ensures form { store_form result ≡ true }
     {
-        let f = Field::empty();
         Self {
-            fields: [f; Self::LIMIT],
+            fields: [Field::empty(); Self::LIMIT],
         }
     }
 
@@ -56,10 +51,9 @@ impl Store {
         ensures shows { view_field result ≡ view_store self (view_place q) }
         ensures form { store_form self ≡ true → field_form result ≡ true }
     {
-        let i = index_of(q);
-        if Self::LIMIT <= i {
+        let Some(i) = index_of(q) else {
             return Field::empty();
-        }
+        };
         self.fields[i]
     }
 
@@ -68,14 +62,10 @@ impl Store {
         ensures shows { view_store result ≡ ranged (follow (view_store self) (view_update c ∷ [])) }
         ensures form { store_form self ≡ true → store_form result ≡ true }
     {
-        let q = c.place;
-        let i = index_of(q);
-        if Self::LIMIT <= i {
-            return self;
-        }
-        let f = self.fields[i];
         let mut t = self;
-        t.fields[i] = c.after(q, f);
+        if let Some(i) = index_of(c.place) {
+            t.fields[i] = c.after(c.place, t.fields[i]);
+        }
         t
     }
 
@@ -84,22 +74,11 @@ impl Store {
         ensures shows { view_store result ≡ ranged (follow (view_store self) (view_changes cs)) }
         ensures form { store_form self ≡ true → store_form result ≡ true }
     {
-        let count = cs.count as usize;
         let mut now = self;
-        let mut i: usize = 0;
-        while i < Changes::LIMIT {
-            if count <= i {
-                return now;
+        for c in lists::used(&cs.items, cs.count) {
+            if let Some(i) = index_of(c.place) {
+                now.fields[i] = c.after(c.place, now.fields[i]);
             }
-            let c = cs.items[i];
-            let q = c.place;
-            let at = index_of(q);
-            if at < Self::LIMIT {
-                let f = now.fields[at];
-                let g = c.after(q, f);
-                now.fields[at] = g;
-            }
-            i += 1;
         }
         now
     }

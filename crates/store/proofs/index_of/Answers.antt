@@ -1,13 +1,9 @@
 -- `index_of` meets its contract.
-use Rattle.store.proofs.StoreLaws.{index_in, index_no_document, index_no_field}
-use borrow.Author.Rules.{rules}
+use Rattle.std.proofs.Common.{arith}
+use Rattle.std.proofs.lemmas.Grind.{common_steps}
+use Rattle.keys.specs.View.{view_place}
 use Rattle.store.proofs.index_of.Goals as goal
 
-pub returns-then-document-ge-DOCUMENTS : goal.returns-then-document-ge-DOCUMENTS
-returns-then-document-ge-DOCUMENTS c = search (index_no_document, rules)
-
-pub returns-then-field-ge-FIELDS : goal.returns-then-field-ge-FIELDS
-returns-then-field-ge-FIELDS c = search (index_no_field, rules)
-
-pub returns : goal.returns
-returns c = search (index_in, rules)
+pub returns-clause-shows : goal.returns-clause-shows
+unfolding view_place
+returns-clause-shows c = grind (arith, common_steps)

@@ -4,14 +4,11 @@ use Rattle.store.proofs.StoreLaws.{changed_past, changed_at, changed_form}
 use borrow.Author.Rules.{rules}
 use Rattle.store.proofs.Store.changed.Goals as goal
 
-pub returns-then-i-ge-LIMIT-clause-shows : goal.returns-then-i-ge-LIMIT-clause-shows
-returns-then-i-ge-LIMIT-clause-shows c = search (changed_past, rules)
+pub returns-in_default-clause-shows : goal.returns-in_default-clause-shows
+returns-in_default-clause-shows c = changed_past _ _ c.in_default.ensures.shows
 
-pub returns-then-i-ge-LIMIT-clause-form : goal.returns-then-i-ge-LIMIT-clause-form
-returns-then-i-ge-LIMIT-clause-form c = λ f. f
+pub returns-in-Some-clause-shows : goal.returns-in-Some-clause-shows
+returns-in-Some-clause-shows c = changed_at _ _ _ c.in-Some.ensures.shows (search (length_mapped, rules)) _ _ c.after.ensures.shows
 
-pub returns-clause-shows : goal.returns-clause-shows
-returns-clause-shows c = search (changed_at, length_mapped, rules)
-
-pub returns-clause-form : goal.returns-clause-form
-returns-clause-form c = changed_form _ _ _ _ (search rules) c.after.ensures.form
+pub returns-in-Some-clause-form : goal.returns-in-Some-clause-form
+returns-in-Some-clause-form c = changed_form _ _ _ _ c.in-Some.ensures.within c.after.ensures.form
