@@ -1,17 +1,48 @@
 -- Loops and iterators over a slice of entries that are seen through a view.
-use mathlib.Core.Path.{◌≡◌, sym, ◌∙◌, ap}
-use mathlib.Core.List.{List, map}
+use native.Mathlib.Omega.{arith}
+use mathlib.Core.Path.{◌≡◌, refl, sym, ◌∙◌, ap}
+use mathlib.Core.Bool.{Bool, true}
+use mathlib.Core.List.{List, [], ◌∷◌, map}
 use Prim.Native.Nat.{ℕ, ◌+◌, ◌≤◌, ◌<◌}
-use lib.ListN.{length, get_or, take, drop, drop_of_length-le}
+use lib.Dec.{ltb}
+use lib.ListN.{length, get_or, set, take, drop, drop_of_length-le}
+use borrow.Author.Tests.{ltb-true, ltb-false}
+use Rattle.std.specs.List.{list_any}
+use Rattle.rules.specs.Lists.{any, pushed}
+use Rattle.rules.proofs.Laws.{by_case}
 use Rattle.lists.specs.Find.{fold}
-use Rattle.lists.specs.Table.{counted}
+use Rattle.lists.specs.Table.{counted, table_form}
 use Rattle.lists.proofs.Loops.{drop_next}
-use Rattle.lists.proofs.Views.{take-map}
+use Rattle.lists.proofs.Views.{take-map, push_room, push_full}
+use Rattle.lists.proofs.Forms.{form_push}
 
 -- the entries in use, seen one by one
 pub counted_taken : {A B : Type 0} (view : A → B) (n : ℕ) (xs : List A) → counted view n xs ≡ map view (take n xs)
 unfolding counted
 counted_taken view n xs = take-map view n xs
+
+-- ── one more entry, as `lists::push` puts it ──
+module _ {A : Type 0} (k : ℕ) {n m : ℕ} {xs ys : List A} (x : A) (long : length xs ≡ k) (item : n < length xs → ys ≡ set xs n x) (more : n < length xs → m ≡ n + 1) (full : length xs ≤ n → ys ≡ xs) (none : length xs ≤ n → m ≡ n) where
+  pub push_shows : {B : Type 0} (view : A → B) → counted view m ys ≡ pushed k (counted view n xs) (view x)
+  push_shows view =
+      by_case (ltb n k)
+      (λ t. let h = ltb-true n k t in let i : n < length xs = omega arith in rw (item i, more i) (push_room view n xs k x long h refl))
+      (λ t. let h = ltb-false n k t in let i : length xs ≤ n = omega arith in rw (full i, none i) (push_full view n xs k (view x) long h))
+
+  pub push_form : (used unused : A → Bool) → used x ≡ true → table_form k used unused n xs ≡ true → table_form k used unused m ys ≡ true
+  push_form used unused u f =
+      by_case (ltb n k)
+      (λ t. let h = ltb-true n k t in let i : n < length xs = omega arith in rw (item i, more i) (form_push k used unused n xs x h u f))
+      (λ t. let h = ltb-false n k t in let i : length xs ≤ n = omega arith in rw (full i, none i) f)
+
+-- ── a test p of the entries that reads no more than what is seen of one ──
+module _ {A B : Type 0} (view : A → B) (p : A → Bool) (q : B → Bool) (same : (x : A) → p x ≡ q (view x)) where
+  any_seen : (xs : List A) → list_any p xs ≡ any q (map view xs)
+  any_seen [] = refl
+  any_seen (x ∷ xs) = rw (same x, any_seen xs) (by_case (q (view x)) (λ t. rw t) (λ t. rw t))
+
+  pub any_used : (n : ℕ) (xs : List A) → list_any p (take n xs) ≡ any q (counted view n xs)
+  any_used n xs = rw (counted_taken view n xs) (any_seen (take n xs))
 
 -- ── a loop that folds what is seen of a slice; b is the view of what it has ──
 pub record Folding {A B C : Type 0} (view : A → B) (f : C → B → C) (ys : List A) (whole b : C) (i : ℕ) : Type 0 where
