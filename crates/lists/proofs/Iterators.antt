@@ -7,14 +7,15 @@ use Prim.Native.Nat.{ℕ, ◌+◌, ◌≤◌, ◌<◌}
 use lib.Dec.{ltb}
 use lib.ListN.{length, get_or, set, take, drop, drop_of_length-le}
 use borrow.Author.Tests.{ltb-true, ltb-false}
-use Rattle.std.specs.List.{list_any}
-use Rattle.rules.specs.Lists.{any, pushed}
-use Rattle.rules.proofs.Laws.{by_case}
+use Rattle.std.proofs.Common.{Some, None}
+use Rattle.std.specs.List.{list_any, find}
+use Rattle.rules.specs.Lists.{any, all, from, pushed}
+use Rattle.rules.proofs.Laws.{by_case, and_true}
 use Rattle.lists.specs.Find.{fold}
 use Rattle.lists.specs.Table.{counted, table_form}
 use Rattle.lists.proofs.Loops.{drop_next}
 use Rattle.lists.proofs.Views.{take-map, push_room, push_full}
-use Rattle.lists.proofs.Forms.{form_push}
+use Rattle.lists.proofs.Forms.{form_push, form_parts}
 
 -- the entries in use, seen one by one
 pub counted_taken : {A B : Type 0} (view : A → B) (n : ℕ) (xs : List A) → counted view n xs ≡ map view (take n xs)
@@ -43,6 +44,36 @@ module _ {A B : Type 0} (view : A → B) (p : A → Bool) (q : B → Bool) (same
 
   pub any_used : (n : ℕ) (xs : List A) → list_any p (take n xs) ≡ any q (counted view n xs)
   any_used n xs = rw (counted_taken view n xs) (any_seen (take n xs))
+
+-- ── the first entry that passes a test p, as `find` answers it ──
+module _ {A B C : Type 0} (view : A → B) (p : A → Bool) (q : B → Bool) (same : (x : A) → p x ≡ q (view x)) (g : B → C) (e : C) where
+  found : (xs : List A) {x : A} → Some x ≡ find p xs → g (view x) ≡ from q g e (map view xs)
+  found [] h = cc
+  found (y ∷ xs) {x} h =
+      by_case (p y)
+      (λ t. let i : Some x ≡ Some y = rw t at h in let j : x ≡ y = cc in rw (← same y, t) (ap (λ (z : A). g (view z)) j))
+      (λ t. rw (← same y, t) (found xs (rw t at h)))
+
+  none_found : (xs : List A) → None ≡ find p xs → e ≡ from q g e (map view xs)
+  none_found [] h = refl
+  none_found (y ∷ xs) h = by_case (p y) (λ t. let i : None ≡ Some y = rw t at h in cc) (λ t. rw (← same y, t) (none_found xs (rw t at h)))
+
+  pub found_used : (n : ℕ) (xs : List A) {x : A} → Some x ≡ find p (take n xs) → g (view x) ≡ from q g e (counted view n xs)
+  found_used n xs h = rw (counted_taken view n xs) (found (take n xs) h)
+
+  pub none_used : (n : ℕ) (xs : List A) → None ≡ find p (take n xs) → e ≡ from q g e (counted view n xs)
+  none_used n xs h = rw (counted_taken view n xs) (none_found (take n xs) h)
+
+-- it is an entry of the table
+find_all : {A : Type 0} (p r : A → Bool) (xs : List A) {x : A} → Some x ≡ find p xs → all r xs ≡ true → r x ≡ true
+find_all p r [] h a = cc
+find_all p r (y ∷ xs) {x} h a =
+    by_case (p y)
+    (λ t. let i : Some x ≡ Some y = rw t at h in let j : x ≡ y = cc in rw j (and_true (r y) (all r xs) a).0)
+    (λ t. find_all p r xs (rw t at h) (and_true (r y) (all r xs) a).1)
+
+pub found_form : {A : Type 0} (p : A → Bool) (k : ℕ) (used unused : A → Bool) (n : ℕ) (xs : List A) {x : A} → Some x ≡ find p (take n xs) → table_form k used unused n xs ≡ true → used x ≡ true
+found_form p k used unused n xs h f = find_all p used (take n xs) h (form_parts k used unused n xs f).in_use
 
 -- ── a loop that folds what is seen of a slice; b is the view of what it has ──
 pub record Folding {A B C : Type 0} (view : A → B) (f : C → B → C) (ys : List A) (whole b : C) (i : ℕ) : Type 0 where
