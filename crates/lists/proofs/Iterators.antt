@@ -1,20 +1,21 @@
 -- Loops and iterators over a slice of entries that are seen through a view.
 use native.Mathlib.Omega.{arith}
 use mathlib.Core.Path.{◌≡◌, refl, sym, ◌∙◌, ap}
-use mathlib.Core.Bool.{Bool, true}
-use mathlib.Core.List.{List, [], ◌∷◌, map}
+use mathlib.Core.Bool.{Bool, true, false}
+use mathlib.Core.List.{List, [], ◌∷◌, ◌++◌, append_assoc, append-nil, map}
 use Prim.Native.Nat.{ℕ, ◌+◌, ◌≤◌, ◌<◌}
 use lib.Dec.{ltb}
-use lib.ListN.{length, get_or, set, take, drop, drop_of_length-le}
+use lib.ListN.{length, get_or, set, take, drop, drop_of_length-le, length-append, length-take}
 use borrow.Author.Tests.{ltb-true, ltb-false}
 use Rattle.std.proofs.Common.{Some, None}
 use Rattle.std.specs.List.{list_any, find}
 use Rattle.rules.specs.Lists.{any, all, from, pushed}
-use Rattle.rules.proofs.Laws.{by_case, and_true}
-use Rattle.lists.specs.Find.{fold}
+use Rattle.rules.proofs.Laws.{by_case, and_true, pushed_room}
+use Rattle.lists.specs.Find.{fold, map_from}
 use Rattle.lists.specs.Table.{counted, table_form}
 use Rattle.lists.proofs.Loops.{drop_next}
 use Rattle.lists.proofs.Views.{take-map, push_room, push_full}
+use Rattle.lists.proofs.Indexed.{all_index}
 use Rattle.lists.proofs.Forms.{form_push, form_parts}
 
 -- the entries in use, seen one by one
@@ -75,6 +76,10 @@ find_all p r (y ∷ xs) {x} h a =
 pub found_form : {A : Type 0} (p : A → Bool) (k : ℕ) (used unused : A → Bool) (n : ℕ) (xs : List A) {x : A} → Some x ≡ find p (take n xs) → table_form k used unused n xs ≡ true → used x ≡ true
 found_form p k used unused n xs h f = find_all p used (take n xs) h (form_parts k used unused n xs f).in_use
 
+-- an entry of the slice in use
+pub used_form : {A : Type 0} (k : ℕ) (used unused : A → Bool) (n : ℕ) (xs : List A) {ys : List A} (i : ℕ) (d : A) → ys ≡ take n xs → i < length ys → table_form k used unused n xs ≡ true → used (get_or ys i d) ≡ true
+used_form k used unused n xs {ys} i d u h f = all_index used ys i d h (rw u (form_parts k used unused n xs f).in_use)
+
 -- ── a loop that folds what is seen of a slice; b is the view of what it has ──
 pub record Folding {A B C : Type 0} (view : A → B) (f : C → B → C) (ys : List A) (whole b : C) (i : ℕ) : Type 0 where
   pub rest : whole ≡ fold f b (map view (drop i ys))
@@ -94,3 +99,53 @@ module _ {A B C : Type 0} {view : A → B} {f : C → B → C} {ys : List A} {wh
   pub fold_end : length ys ≤ i → b ≡ whole
   unfolding fold
   fold_end h = sym (inv.rest ∙ simp (drop_of_length-le ys h))
+
+-- ── a loop that looks for the first entry of a slice that passes a test ──
+pub record Looking {A B C : Type 0} (view : A → B) (p : B → Bool) (g : B → C) (e : C) (ys : List A) (whole : C) (i : ℕ) : Type 0 where
+  pub rest : whole ≡ from p g e (map view (drop i ys))
+
+-- over the entries in use
+pub look_used : {A B C : Type 0} {view : A → B} {p : B → Bool} {g : B → C} {e : C} (n : ℕ) (xs : List A) {ys : List A} → ys ≡ take n xs → Looking view p g e ys (from p g e (counted view n xs)) 0
+look_used {view = view} {p} {g} {e} n xs u = rw u (record { rest = ap (from p g e) (counted_taken view n xs) })
+
+module _ {A B C : Type 0} {view : A → B} {p : B → Bool} {g : B → C} {e : C} {ys : List A} {whole : C} {i : ℕ} (inv : Looking view p g e ys whole i) where
+  -- t is what the test of the entry answered
+  pub look_hit : (d : A) {t : Bool} {r : C} → i < length ys → t ≡ p (view (get_or ys i d)) → t ≡ true → r ≡ g (view (get_or ys i d)) → r ≡ whole
+  look_hit d h a b q = sym (inv.rest ∙ simp (drop_next d ys i h, ← a, b, q))
+
+  pub look_next : (d : A) {t : Bool} → i < length ys → t ≡ p (view (get_or ys i d)) → t ≡ false → Looking view p g e ys whole (i + 1)
+  look_next d h a b = record { rest = inv.rest ∙ simp (drop_next d ys i h, ← a, b) }
+
+  pub look_end : {r : C} → length ys ≤ i → r ≡ e → r ≡ whole
+  look_end h q = q ∙ sym (inv.rest ∙ simp (drop_of_length-le ys h))
+
+-- ── a loop that puts each entry of a slice, made anew by its place, into a new table of k entries, seen as acc ──
+pub record Placing {A B C : Type 0} (view : A → B) (g : ℕ → B → C) (k : ℕ) (ys : List A) (whole acc : List C) (i : ℕ) : Type 0 where
+  pub room : length ys ≤ k
+  pub few : length acc ≡ i
+  pub rest : whole ≡ acc ++ map_from g i (map view (drop i ys))
+
+-- over the entries in use
+pub place_used : {A B C : Type 0} {view : A → B} {g : ℕ → B → C} {k : ℕ} (n : ℕ) (xs : List A) {ys : List A} {acc : List C} → length xs ≡ k → ys ≡ take n xs → acc ≡ [] → Placing view g k ys (map_from g 0 (counted view n xs)) acc 0
+place_used {view = view} {g} n xs l u e =
+    record {
+      room = rw (u, length-take n xs) (omega arith);
+      few = rw e refl;
+      rest = rw (e, u) (ap (map_from g 0) (counted_taken view n xs));
+    }
+
+module _ {A B C : Type 0} {view : A → B} {g : ℕ → B → C} {k : ℕ} {ys : List A} {whole acc : List C} {i : ℕ} (inv : Placing view g k ys whole acc i) where
+  pub place_next : (d : A) {r : List C} → i < length ys → r ≡ pushed k acc (g i (view (get_or ys i d))) → Placing view g k ys whole r (i + 1)
+  unfolding map_from
+  place_next d {r} h e =
+      let x = g i (view (get_or ys i d)) in
+      let q : r ≡ acc ++ (x ∷ []) = e ∙ pushed_room k acc x (omega (arith, inv.room, inv.few)) in
+      record {
+        room = inv.room;
+        few = rw q (simp length-append (omega (arith, inv.few)));
+        rest = inv.rest ∙ simp (drop_next d ys i h, q, append_assoc);
+      }
+
+  pub place_end : length ys ≤ i → acc ≡ whole
+  unfolding map_from
+  place_end h = sym (inv.rest ∙ simp (drop_of_length-le ys h, append-nil))
