@@ -8,6 +8,8 @@ use lib.ListN.{length, take}
 use mir.Syntax.{w32}
 use mir.Val.{SFits}
 use mir.Facts.{to_z-of_z}
+use Rattle.std.specs.Prelude.{Result, Ok, Err, IfOk}
+use Rattle.std.specs.Result.{result_unwrap_or}
 use Rattle.rules.proofs.KeptTest.{eq_z_is}
 use Rattle.rules.specs.Limits.{member_limit}
 use Rattle.rules.specs.Values.{eq_z, fits32, kind_of_field, values_of}
@@ -15,8 +17,8 @@ use Rattle.rules.specs.Changes.{Kind, change, field_of}
 use Rattle.lists.specs.Table.{counted, table_form}
 use Rattle.lists.proofs.Forms.{form_parts, table_same}
 use Rattle.field.specs.declared.Field.{Field}
-use Rattle.field.specs.declared.Applied.{Applied}
-use Rattle.field.specs.View.{view_field, view_applied, field_form, Exact}
+use Rattle.field.specs.declared.Misfit.{Misfit}
+use Rattle.field.specs.View.{view_field, view_changed, field_form}
 use Rattle.field.proofs.Signed.{held}
 use Rattle.field.proofs.ViewLaws.{members, first_values, Form, form_of}
 
@@ -45,10 +47,18 @@ field_unique f g h k e =
     same_parts f g (a.kind ∙ ap kind_of_field e ∙ sym b.kind) n
     (table_same member_limit fits32 (eq_z (pos 0)) (λ x. x) (λ x y p q r. r) (λ x y p q. sym (eq_z_is (pos 0) x p) ∙ eq_z_is (pos 0) y q) (pos 0) f.count f.values g.values a.table t s)
 
--- ── what a caller of `changed` has: the field of the rules' outcome ──
-module _ (f : Field) (a : Applied) (k : Kind) (v : ℤ) (w : SFits w32 v) (e : view_applied a ≡ change k (held v) (view_field f)) (x : Exact f a) where
-  pub answer_field : view_field a.field ≡ field_of (change k v (view_field f)) (view_field f)
-  answer_field = x.field ∙ rw (e, to_z-of_z w)
+-- ── what a caller of `changed` has who keeps the field at a refusal: the field of the rules' outcome, in form ──
+kept : (f : Field) (r : Result Field Misfit) → view_field (result_unwrap_or r f) ≡ field_of (view_changed r) (view_field f)
+unfolding field_of
+kept f (Ok g) = refl
+kept f (Err m) = refl
+
+pub kept_field : (f : Field) (r : Result Field Misfit) (k : Kind) (v : ℤ) → SFits w32 v → view_changed r ≡ change k (held v) (view_field f) → view_field (result_unwrap_or r f) ≡ field_of (change k v (view_field f)) (view_field f)
+kept_field f r k v w e = kept f r ∙ rw (e, to_z-of_z w)
+
+pub kept_form : (f : Field) (r : Result Field Misfit) → IfOk r (λ g. field_form f ≡ true → field_form g ≡ true) → field_form f ≡ true → field_form (result_unwrap_or r f) ≡ true
+kept_form f (Ok g) h e = h e
+kept_form f (Err m) h e = e
 
 -- ── the form computes ──
 two_members : field_form (record { kind = 2; count = 2; values = pos 7 ∷ negsuc 0 ∷ pos 0 ∷ pos 0 ∷ pos 0 ∷ pos 0 ∷ [] }) ≡ true

@@ -3,7 +3,6 @@
 pub mod Signed
 -- what is seen of a field
 pub mod ViewLaws
-pub mod Members
 -- the methods
 pub mod ChangeLaws
 pub mod WordLaws

@@ -1,19 +1,18 @@
--- Numbers of 32 bits: as a local holds them, their sum, the ends of their range, and the test of equality.
+-- Numbers of 32 bits: as a local holds them, the ends of their range, and the test of equality.
 use mathlib.Core.Path.{◌≡◌, refl, ap, sym, ◌∙◌}
-use mathlib.Core.Bool.{Bool, true, false, cond, not}
-use Prim.Native.Nat.{ℕ, suc, ◌+◌, ◌-◌, ◌<◌, ◌^◌}
+use mathlib.Core.Bool.{true, false, not}
+use Prim.Native.Nat.{ℕ, ◌<◌, ◌^◌}
 use native.Mathlib.Omega.{arith}
 use lib.Dec.{leb, ltb}
-use lib.IntN.{ℤ, pos, negsuc, ◌+ℤ◌}
+use lib.IntN.{ℤ, pos, negsuc}
 use lib.Signed.{mag, le_z, lt_z}
 use mir.Syntax.{w32, w64}
 use mir.Val.{SFits, to_z, of_z}
 use mir.Facts.{to_z-of_z, sfits_widen}
 use borrow.Author.Rules.{sfits_of}
-use borrow.Author.Tests.{ltb-true, ltb-false, le-leb, lt-leb}
+use borrow.Author.Tests.{leb-true, ltb-true, ltb-false, le-leb, lt-leb}
 use Rattle.rules.proofs.KeptTest.{eq_z_is, eq_z-refl}
 use Rattle.rules.proofs.Laws.{by_case, both}
-use Rattle.rules.specs.Limits.{lowest, highest}
 use Rattle.rules.specs.Values.{eq_z, fits32}
 
 -- a number as it is read back from the bits that a local holds
@@ -23,20 +22,10 @@ held z = to_z w32 (of_z w32 z)
 pub held_is : (z : ℤ) → mag z < 2 ^ 31 → held z ≡ z
 held_is z h = to_z-of_z {w = w32} {z = z} (sfits_of h)
 
--- ── the sum of two numbers of 32 bits has 64 ──
+-- ── a number of 32 bits has 64 ──
 -- a number that is read back after a cast to 64 bits
 abbrev pub wide : ℤ → ℤ
 wide z = to_z w64 (of_z w64 (held z))
-
-mag-cond : (t : Bool) (m n k : ℕ) → m < k → n < k → mag (cond t (negsuc m) (pos n)) < k
-mag-cond true m n k h i = h
-mag-cond false m n k h i = i
-
-mag_sum : (a b : ℤ) (k : ℕ) → mag a < k → mag b < k → mag (a +ℤ b) < k + k
-mag_sum (pos a) (pos b) k h i = omega arith
-mag_sum (pos a) (negsuc b) k h i = mag-cond (ltb a (suc b)) (suc b - suc a) (a - suc b) (k + k) (omega arith) (omega arith)
-mag_sum (negsuc a) (pos b) k h i = mag-cond (ltb b (suc a)) (suc a - suc b) (b - suc a) (k + k) (omega arith) (omega arith)
-mag_sum (negsuc a) (negsuc b) k h i = omega arith
 
 module _ (a : ℤ) (h : SFits w32 a) where
   pub held_fits : SFits w64 (held a)
@@ -45,22 +34,16 @@ module _ (a : ℤ) (h : SFits w32 a) where
   pub wide_is : wide a ≡ a
   wide_is = to_z-of_z held_fits ∙ to_z-of_z h
 
-module _ (a b : ℤ) (h : SFits w32 a) (i : SFits w32 b) where
-  pub sum_fits : SFits w64 (wide a +ℤ wide b)
-  sum_fits = rw (wide_is a h, wide_is b i) (record { sfits = omega (arith, mag_sum a b (2 ^ 31) h.sfits i.sfits) })
-
-  pub sum_is : to_z w64 (of_z w64 (wide a +ℤ wide b)) ≡ a +ℤ b
-  sum_is = to_z-of_z sum_fits ∙ rw (wide_is a h, wide_is b i)
-
 -- ── the ends of the range ──
-pub in_range_lem : (s : ℤ) → lt_z s lowest ≡ false → lt_z highest s ≡ false → SFits w32 s
-in_range_lem (pos n) lo hi = record { sfits = omega (arith, ltb-false 2147483647 n hi) }
-in_range_lem (negsuc n) lo hi = record { sfits = omega (arith, ltb-false 2147483647 n lo) }
-
 pub fits_are : (z : ℤ) → SFits w32 z → fits32 z ≡ true
 unfolding fits32
 fits_are (pos n) h = le-leb n 2147483647 (omega (arith, h.sfits))
 fits_are (negsuc n) h = both _ _ (le-leb n 2147483647 (omega (arith, h.sfits))) refl
+
+pub fits_not : (z : ℤ) → (SFits w32 z → ⊥) → fits32 z ≡ false
+unfolding fits32
+fits_not (pos n) h = by_case (leb n 2147483647) (λ t. absurd (h (record { sfits = omega (arith, leb-true n 2147483647 t) }))) (λ t. t)
+fits_not (negsuc n) h = by_case (leb n 2147483647) (λ t. absurd (h (record { sfits = omega (arith, leb-true n 2147483647 t) }))) (λ t. rw t)
 
 -- the rules compare by `le_z`
 leb_is : (a b : ℕ) → leb b a ≡ not (ltb a b)

@@ -1,7 +1,7 @@
 -- What is seen of a field, kind by kind, and what its form says.
 use mathlib.Core.Path.{◌≡◌, refl, ap}
 use mathlib.Core.Bool.{true}
-use mathlib.Core.List.{List}
+use mathlib.Core.List.{List, []}
 use Prim.Native.Nat.{◌≤◌}
 use native.Mathlib.Omega.{arith}
 use lib.Dec.{eqb}
@@ -39,7 +39,17 @@ module _ (f : Field) where
       by_case (eqb f.kind 0) (λ t. a (eqb-true _ _ t))
       (λ t. by_case (eqb f.kind 1) (λ u. b (eqb-true _ _ u)) (λ u. c (eqb-false _ _ t) (eqb-false _ _ u)))
 
-  -- the values that count are the first, and at most all of them
+  -- the values that count, as the code takes them
+  pub take_none : f.kind ≡ 0 → [] ≡ members f
+  take_none h = rw (view_absent h) refl
+
+  pub take_one : length f.values ≡ member_limit → f.kind ≡ 1 → take 1 f.values ≡ members f
+  take_one l h = rw (view_number_lem h) (take-suc f.values 0 (pos 0) (omega arith))
+
+  pub take_count : (f.kind ≡ 0 → ⊥) → (f.kind ≡ 1 → ⊥) → take f.count f.values ≡ members f
+  take_count n m = rw (view_list n m) refl
+
+  -- they are the first, and at most all of them
   module _ (l : length f.values ≡ member_limit) where
     pub first_values : take (length (members f)) f.values ≡ members f
     first_values =

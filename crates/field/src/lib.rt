@@ -1,38 +1,30 @@
 // A field of a document, its six changes, and the eight words that show it.
 #![tactic(auto)]
 
-ghost use Rattle.std.specs.Prelude.{◌≡◌, true, cond, ◌++◌, ◌≤◌, ◌<◌, leb, pos, ◌+ℤ◌, length, get_or, drop};
+ghost use Rattle.std.specs.Prelude.{◌≡◌, ◌≢◌, ◌≤◌, true, cond, ◌++◌, leb, length, drop, IfOk, MatchResult};
 ghost use Rattle.rules.specs.Limits.{member_limit, words_per_field};
 ghost use Rattle.rules.specs.Values as S;
 ghost use Rattle.rules.specs.Values.{kind_of_field, values_of, show};
 ghost use Rattle.rules.specs.Changes as C;
 ghost use Rattle.rules.specs.Changes.{pull_all, change, kind_of};
-ghost use Rattle.field.specs.View.{view_field, view_applied, field_form, Exact, index_of, number_kind};
+ghost use Rattle.field.specs.declared.Misfit.TheVariants.{WrongKind};
+ghost use Rattle.field.specs.View.{view_field, view_changed, field_form, number_kind};
 
 // Absent (count 0), a number (count 1) or a list of count values. Values that do not count are 0.
 // Every method holds of other fields too, as the view reads them.
 #[derive(Clone, Copy)]
 pub struct Field {
-    pub kind: u8,
+    pub kind: u8, // no enum: any plant can be given to the entry, so that there are kinds above LIST, which the form forbids
     pub count: u8,
     pub values: [i32; Field::LIMIT],
 }
 
-// What a change answers: its refusal, and the field that it leaves, which a refusal leaves as it was.
-#[derive(Clone, Copy)]
-pub struct Applied {
-    pub refusal: u8,
-    pub field: Field,
-}
-
-impl Applied {
-    pub const DONE: u8 = 0;
-
-    pub const WRONG_KIND: u8 = 6;
-
-    pub const SEVENTH_MEMBER: u8 = 7;
-
-    pub const SUM_TOO_LARGE: u8 = 8;
+// Why a change does not fit the field.
+#[derive(Clone, Copy, PartialEq, Eq)]
+pub enum Misfit {
+    WrongKind,
+    SeventhMember,
+    SumTooLarge,
 }
 
 // The changes by their numbers. A pull has the last one, and any other is taken for it.
@@ -51,19 +43,12 @@ pub const LOWEST: i64 = -2147483648;
 
 pub const HIGHEST: i64 = 2147483647;
 
-// Where the kind, the count and the first value stand among a field's words.
+// Where the kind, the count and the values stand among a field's words.
 const KIND_AT: usize = 0;
 
 const COUNT_AT: usize = 1;
 
 const VALUES_AT: usize = 2;
-
-// The sum of two numbers, which a wider type holds.
-fn sum(a: i32, b: i32) -> i64
-    ensures { result ≡ a +ℤ b }
-{
-    (a as i64) + (b as i64)
-}
 
 impl Field {
     pub const ABSENT: u8 = 0;
@@ -91,50 +76,33 @@ impl Field {
         ensures shows { view_field result ≡ S.number v }
         ensures form { field_form result ≡ true }
     {
-        let mut values = [0i32; Field::LIMIT];
-        values[0] = v;
         Self {
             kind: Field::NUMBER,
             count: 1,
-            values,
+            values: [v, 0, 0, 0, 0, 0],
         }
     }
 
-    // How many values count.
-    fn len(self) -> usize
-        ensures few { result ≤ member_limit }
-        ensures shows { result ≡ length (values_of (view_field self)) }
+    // The values that count.
+    fn members(&self) -> &[i32]
+        ensures shows { result.now ≡ values_of (view_field self.now) }
+        ensures few { length result.now ≤ member_limit }
     {
-        if self.kind == Field::ABSENT {
-            return 0;
+        match self.kind {
+            Field::ABSENT => &[],
+            Field::NUMBER => &self.values[..1],
+            _ => lists::used(&self.values, self.count),
         }
-        if self.kind == Field::NUMBER {
-            return 1;
-        }
-        let n = self.count as usize;
-        if Field::LIMIT < n {
-            return Field::LIMIT;
-        }
-        n
     }
 
-    // The index of the first value that equals v, or LIMIT where none does.
-    fn index_of(self, v: i32) -> usize
-        ensures { result ≡ index_of v (values_of (view_field self)) }
+    // The members, where the field is no number; absent is the empty list.
+    fn list(&self) -> Result<&[i32], Misfit>
+        ensures { MatchResult result (λ l. (self.now.kind ≢ number_kind) × (l.now ≡ values_of (view_field self.now))) (λ e. (self.now.kind ≡ number_kind) × (e ≡ WrongKind)) }
     {
-        let n = self.len();
-        let mut i: usize = 0;
-        while i < Field::LIMIT {
-            if n <= i {
-                return Field::LIMIT;
-            }
-            let x = self.values[i];
-            if x == v {
-                return i;
-            }
-            i += 1;
+        match self.kind {
+            Field::NUMBER => Err(Misfit::WrongKind),
+            _ => Ok(self.members()),
         }
-        Field::LIMIT
     }
 
     // The list of the values that do not equal v.
@@ -142,190 +110,89 @@ impl Field {
         ensures shows { view_field result ≡ S.list (pull_all v (values_of (view_field self))) }
         ensures form { field_form self ≡ true → field_form result ≡ true }
     {
-        let n = self.len();
-        let old = self.values;
         let mut kept = [0i32; Field::LIMIT];
-        let mut m: usize = 0;
-        let mut i: usize = 0;
-        while i < n {
-            let x = old[i];
-            if x != v {
-                kept[m] = x;
-                m += 1;
+        let mut n = 0u8;
+        for x in self.members() {
+            if *x != v {
+                lists::push(&mut kept, &mut n, *x);
             }
-            i += 1;
         }
-        let count = m as u8;
-        let kind = Field::LIST; // still a list, be it empty
         Self {
-            kind,
-            count,
+            kind: Field::LIST, // still a list, be it empty
+            count: n,
             values: kept,
         }
     }
 
     // v added to a number; absent is 0.
-    fn inc(self, v: i32) -> Applied
-        ensures shows { view_applied result ≡ change C.inc v (view_field self) }
-        ensures form { field_form self ≡ true → field_form result.field ≡ true }
-        ensures exact { Exact self result }
+    fn inc(self, v: i32) -> Result<Field, Misfit>
+        ensures shows { view_changed result ≡ change C.inc v (view_field self) }
+        ensures form { IfOk result (λ g. field_form self ≡ true → field_form g ≡ true) }
     {
-        if self.kind == Field::ABSENT {
-            return Applied {
-                refusal: Applied::DONE,
-                field: Field::number(v),
-            };
-        }
-        if self.kind != Field::NUMBER {
-            return Applied {
-                refusal: Applied::WRONG_KIND,
-                field: self,
-            };
-        }
-        let s = sum(self.values[0], v);
-        if s < LOWEST {
-            return Applied {
-                refusal: Applied::SUM_TOO_LARGE,
-                field: self,
-            };
-        }
-        if HIGHEST < s {
-            return Applied {
-                refusal: Applied::SUM_TOO_LARGE,
-                field: self,
-            };
-        }
-        Applied {
-            refusal: Applied::DONE,
-            field: Field::number(s as i32),
+        match self.kind {
+            Field::ABSENT => Ok(Field::number(v)),
+            Field::NUMBER => {
+                let sum = self.values[0].checked_add(v).ok_or(Misfit::SumTooLarge)?;
+                Ok(Field::number(sum))
+            }
+            _ => Err(Misfit::WrongKind),
         }
     }
 
-    // v put last, in a field that is no number; absent is the empty list, here and in the next one.
-    fn push(self, v: i32) -> Applied
-        requires { self.kind ≡ number_kind → ⊥ }
-        ensures shows { view_applied result ≡ change C.push v (view_field self) }
-        ensures form { field_form self ≡ true → field_form result.field ≡ true }
-        ensures exact { Exact self result }
+    // v put last.
+    fn push(self, v: i32) -> Result<Field, Misfit>
+        ensures shows { view_changed result ≡ change C.push v (view_field self) }
+        ensures form { IfOk result (λ g. field_form self ≡ true → field_form g ≡ true) }
     {
-        let n = self.len();
+        let n = self.list()?.len();
         if Field::LIMIT <= n {
-            return Applied {
-                refusal: Applied::SEVENTH_MEMBER,
-                field: self,
-            };
+            return Err(Misfit::SeventhMember);
         }
         let mut values = self.values;
         values[n] = v;
-        Applied {
-            refusal: Applied::DONE,
-            field: Field {
-                kind: Field::LIST,
-                count: (n + 1) as u8,
-                values,
-            },
-        }
+        Ok(Field {
+            kind: Field::LIST,
+            count: (n + 1) as u8,
+            values,
+        })
     }
 
     // v put last where it is no member yet.
-    fn add(self, v: i32) -> Applied
-        requires { self.kind ≡ number_kind → ⊥ }
-        ensures shows { view_applied result ≡ change C.add v (view_field self) }
-        ensures form { field_form self ≡ true → field_form result.field ≡ true }
-        ensures exact { Exact self result }
+    fn add(self, v: i32) -> Result<Field, Misfit>
+        ensures shows { view_changed result ≡ change C.add v (view_field self) }
+        ensures form { IfOk result (λ g. field_form self ≡ true → field_form g ≡ true) }
     {
-        if self.index_of(v) < Field::LIMIT {
-            return Applied {
-                refusal: Applied::DONE,
-                field: self,
-            };
+        if self.list()?.contains(&v) {
+            return Ok(self);
         }
         self.push(v)
     }
 
     // Every member that equals v taken out: a list stays a list, be it empty, and absent stays absent.
-    fn pull(self, v: i32) -> Applied
-        requires { self.kind ≡ number_kind → ⊥ }
-        ensures shows { view_applied result ≡ change C.pull v (view_field self) }
-        ensures form { field_form self ≡ true → field_form result.field ≡ true }
-        ensures exact { Exact self result }
+    fn pull(self, v: i32) -> Result<Field, Misfit>
+        ensures shows { view_changed result ≡ change C.pull v (view_field self) }
+        ensures form { IfOk result (λ g. field_form self ≡ true → field_form g ≡ true) }
     {
-        if self.kind == Field::ABSENT {
-            return Applied {
-                refusal: Applied::DONE,
-                field: self,
-            };
-        }
-        Applied {
-            refusal: Applied::DONE,
-            field: self.without(v),
+        match self.kind {
+            Field::ABSENT => Ok(self),
+            Field::NUMBER => Err(Misfit::WrongKind),
+            _ => Ok(self.without(v)),
         }
     }
 
     // The change of a number, made to the field.
-    pub fn changed(self, kind: u8, v: i32) -> Applied
-        ensures shows { view_applied result ≡ change (kind_of kind) v (view_field self) }
-        ensures form { field_form self ≡ true → field_form result.field ≡ true }
-        ensures exact { Exact self result }
+    pub fn changed(self, kind: u8, v: i32) -> Result<Field, Misfit>
+        ensures shows { view_changed result ≡ change (kind_of kind) v (view_field self) }
+        ensures form { IfOk result (λ g. field_form self ≡ true → field_form g ≡ true) }
     {
-        if kind == SET {
-            return Applied {
-                refusal: Applied::DONE,
-                field: Field::number(v),
-            };
+        match kind {
+            SET => Ok(Field::number(v)),
+            UNSET => Ok(Field::empty()),
+            INC => self.inc(v),
+            ADD => self.add(v),
+            PUSH => self.push(v),
+            _ => self.pull(v),
         }
-        if kind == UNSET {
-            return Applied {
-                refusal: Applied::DONE,
-                field: Field::empty(),
-            };
-        }
-        if kind == INC {
-            return self.inc(v);
-        }
-        // The others are changes of a list.
-        if self.kind == Field::NUMBER {
-            return Applied {
-                refusal: Applied::WRONG_KIND,
-                field: self,
-            };
-        }
-        if kind == ADD {
-            return self.add(v);
-        }
-        if kind == PUSH {
-            return self.push(v);
-        }
-        self.pull(v)
-    }
-
-    // The kind as it is shown.
-    fn shown_kind(self) -> u8
-        ensures { result ≡ kind_of_field (view_field self) }
-    {
-        if self.kind < Field::LIST {
-            return self.kind;
-        }
-        Field::LIST
-    }
-
-    // One of the words that show the field.
-    fn word(self, i: usize) -> i32
-        requires { i < words_per_field }
-        ensures { result ≡ get_or (show (view_field self)) i (pos 0) }
-    {
-        if i == KIND_AT {
-            return self.shown_kind() as i32;
-        }
-        let n = self.len();
-        if i == COUNT_AT {
-            return n as i32;
-        }
-        let at = i - VALUES_AT;
-        if n <= at {
-            return 0;
-        }
-        self.values[at]
     }
 
     // Shows the field in the first eight of the lent words, or in none where fewer are lent.
@@ -335,10 +202,11 @@ impl Field {
         if words.len() < Field::WORDS {
             return;
         }
-        let mut i: usize = 0;
-        while i < Field::WORDS {
-            words[i] = self.word(i);
-            i += 1;
-        }
+        let members = self.members();
+        let end = VALUES_AT + members.len();
+        words[KIND_AT] = self.kind.min(Field::LIST) as i32;
+        words[COUNT_AT] = members.len() as i32;
+        words[VALUES_AT..end].copy_from_slice(members);
+        words[end..Field::WORDS].fill(0);
     }
 }

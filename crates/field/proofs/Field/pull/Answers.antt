@@ -1,22 +1,13 @@
 -- Every member that equals a value taken out.
 use borrow.Author.Rules.{rules}
-use Rattle.rules.specs.Changes.{field_of}
-use Rattle.field.proofs.ChangeLaws.{pull_none, pull_some}
-use Rattle.field.specs.View.{view_applied, outcome_number}
+use Rattle.field.proofs.ChangeLaws.{pull_none, pull_number, pull_some}
 use Rattle.field.proofs.Field.pull.Goals as goal
 
-pub returns-then-self-eq-ABSENT-clause-shows : goal.returns-then-self-eq-ABSENT-clause-shows
-unfolding view_applied outcome_number field_of
-returns-then-self-eq-ABSENT-clause-shows c = search (pull_none, rules)
+pub returns-in-0-clause-shows : goal.returns-in-0-clause-shows
+returns-in-0-clause-shows c = search (pull_none, rules)
 
-pub returns-then-self-eq-ABSENT-clause-exact : goal.returns-then-self-eq-ABSENT-clause-exact
-unfolding view_applied outcome_number field_of
-returns-then-self-eq-ABSENT-clause-exact c = search (pull_none, rules)
+pub returns-in-1-clause-shows : goal.returns-in-1-clause-shows
+returns-in-1-clause-shows c = search (pull_number, rules)
 
-pub returns-clause-shows : goal.returns-clause-shows
-unfolding view_applied outcome_number field_of
-returns-clause-shows c = search (pull_some, rules)
-
-pub returns-clause-exact : goal.returns-clause-exact
-unfolding view_applied outcome_number field_of
-returns-clause-exact c = search (pull_some, rules)
+pub returns-in_default-clause-shows : goal.returns-in_default-clause-shows
+returns-in_default-clause-shows c = search (pull_some, rules)
