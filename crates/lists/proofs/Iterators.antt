@@ -59,11 +59,12 @@ module _ {A B C : Type 0} (view : A → B) (p : A → Bool) (q : B → Bool) (sa
   none_found [] h = refl
   none_found (y ∷ xs) h = by_case (p y) (λ t. let i : None ≡ Some y = rw t at h in cc) (λ t. rw (← same y, t) (none_found xs (rw t at h)))
 
-  pub found_used : (n : ℕ) (xs : List A) {x : A} → Some x ≡ find p (take n xs) → g (view x) ≡ from q g e (counted view n xs)
-  found_used n xs h = rw (counted_taken view n xs) (found (take n xs) h)
+  -- ys are the entries in use
+  pub found_used : (n : ℕ) (xs : List A) {ys : List A} {x : A} → ys ≡ take n xs → Some x ≡ find p ys → g (view x) ≡ from q g e (counted view n xs)
+  found_used n xs {ys} u h = rw (counted_taken view n xs, ← u) (found ys h)
 
-  pub none_used : (n : ℕ) (xs : List A) → None ≡ find p (take n xs) → e ≡ from q g e (counted view n xs)
-  none_used n xs h = rw (counted_taken view n xs) (none_found (take n xs) h)
+  pub none_used : (n : ℕ) (xs : List A) {ys : List A} → ys ≡ take n xs → None ≡ find p ys → e ≡ from q g e (counted view n xs)
+  none_used n xs {ys} u h = rw (counted_taken view n xs, ← u) (none_found ys h)
 
 -- it is an entry of the table
 find_all : {A : Type 0} (p r : A → Bool) (xs : List A) {x : A} → Some x ≡ find p xs → all r xs ≡ true → r x ≡ true
@@ -73,8 +74,8 @@ find_all p r (y ∷ xs) {x} h a =
     (λ t. let i : Some x ≡ Some y = rw t at h in let j : x ≡ y = cc in rw j (and_true (r y) (all r xs) a).0)
     (λ t. find_all p r xs (rw t at h) (and_true (r y) (all r xs) a).1)
 
-pub found_form : {A : Type 0} (p : A → Bool) (k : ℕ) (used unused : A → Bool) (n : ℕ) (xs : List A) {x : A} → Some x ≡ find p (take n xs) → table_form k used unused n xs ≡ true → used x ≡ true
-found_form p k used unused n xs h f = find_all p used (take n xs) h (form_parts k used unused n xs f).in_use
+pub found_form : {A : Type 0} (p : A → Bool) (k : ℕ) (used unused : A → Bool) (n : ℕ) (xs : List A) {ys : List A} {x : A} → ys ≡ take n xs → Some x ≡ find p ys → table_form k used unused n xs ≡ true → used x ≡ true
+found_form p k used unused n xs u h f = find_all p used (take n xs) (rw u at h) (form_parts k used unused n xs f).in_use
 
 -- an entry of the slice in use
 pub used_form : {A : Type 0} (k : ℕ) (used unused : A → Bool) (n : ℕ) (xs : List A) {ys : List A} (i : ℕ) (d : A) → ys ≡ take n xs → i < length ys → table_form k used unused n xs ≡ true → used (get_or ys i d) ≡ true
