@@ -1,14 +1,24 @@
 -- Loops and iterators over a slice of entries that are seen through a view.
 use native.Mathlib.Omega.{arith}
 use mathlib.Core.Path.{◌≡◌, refl, sym, ◌∙◌, ap}
-use mathlib.Core.Bool.{Bool, true, false}
+use mathlib.Core.Bool.{Bool, true, false, ◌&&◌}
 use mathlib.Core.List.{List, [], ◌∷◌, ◌++◌, append_assoc, append-nil, map}
 use Prim.Native.Nat.{ℕ, ◌+◌, ◌≤◌, ◌<◌}
 use lib.Dec.{ltb}
 use lib.ListN.{length, get_or, set, take, drop, drop_of_length-le, length-append, length-take}
 use borrow.Author.Tests.{ltb-true, ltb-false}
-use Rattle.std.proofs.Common.{Some, None}
-use Rattle.std.specs.List.{list_any, find}
+use denote.Ref.{Bor}
+use denote.Param.Members.{Mut}
+use Rattle.std.proofs.Common.{Option, Some, None, MatchOption, option_map}
+use Rattle.std.specs.Fn.{Called, CalledAt}
+use Rattle.std.specs.Iterator.{ChecksAny, ChecksAll, FindsItem, FoldsItems}
+use Rattle.std.specs.List.{list_any, list_all, find}
+use Rattle.std.specs.Slice.Iter.{iter_rest}
+use Rattle.std.specs.declared.slice.Iter.{Iter}
+use Rattle.std.proofs.lemmas.Fn.{fronts, fold_over, slice_gives}
+use Rattle.std.proofs.lemmas.List.{map-append}
+use Rattle.std.proofs.lemmas.Iterator.{YieldsList-from_slice}
+use Rattle.std.proofs.lemmas.Iterator.Search.{any_from_yields_List, all_from_yields_List, find_from_yields_List}
 use Rattle.rules.specs.Lists.{any, all, from, pushed}
 use Rattle.rules.proofs.Laws.{by_case, and_true, pushed_room}
 use Rattle.lists.specs.Find.{fold, map_from}
@@ -150,3 +160,66 @@ module _ {A B C : Type 0} {view : A → B} {g : ℕ → B → C} {k : ℕ} {ys :
   pub place_end : length ys ≤ i → acc ≡ whole
   unfolding map_from
   place_end h = sym (inv.rest ∙ simp (drop_of_length-le ys h, append-nil))
+
+-- ── what a method answers of an iterator that still has what shows as l; its last argument `λ x b f k. search (rules, tests)` is what one call of its closure answers ──
+pub record Shown {A B : Type 0} (view : A → B) (s : Iter A) (l : List B) : Type 0 where
+  pub is : map view (iter_rest s) ≡ l
+
+module _ {A B : Type 0} {view : A → B} {s : Iter A} where
+  pub shown : {ys : List A} {l : List B} → iter_rest s ≡ ys → map view ys ≡ l → Shown view s l
+  shown e m = record { is = ap (map view) e ∙ m }
+
+  -- over the entries in use
+  pub shown_used : (n : ℕ) (xs : List A) {ys : List A} → iter_rest s ≡ ys → ys ≡ take n xs → Shown view s (counted view n xs)
+  shown_used n xs e m = shown e (ap (map view) m ∙ sym (counted_taken view n xs))
+
+first : {A B F : Type 0} (view : A → B) (p : B → Bool) {s : Iter A} {g : Mut F (Bor (Bor A) × Unit {0}) Bool} {f : F} (u : Iter A) (r : Option (Bor A)) {o : Option (Bor A)} → FindsItem fronts g s f r u → r ≡ o
+    → ((x : Bor A) (b : Bool) (j : F) → CalledAt g f x b j → (j ≡ f) × (b ≡ p (view x.now))) → option_map (λ x. x.now) o ≡ find (λ x. p (view x)) (iter_rest s)
+first view p {s} {f = f} u r t e k = ap (option_map (λ x. x.now)) (sym e) ∙ find_from_yields_List (λ x. p (view x)) u f r t (YieldsList-from_slice (iter_rest s) refl) k
+
+module _ {A B : Type 0} {view : A → B} {s : Iter A} {l : List B} {F : Type 0} {f : F} where
+  module _ {g : Mut F (Bor A × Unit {0}) Bool} {u : Iter A} (p : B → Bool) {r : Bool} where
+    pub shown_any : ChecksAny fronts g s f r u → Shown view s l → ((x : Bor A) (b : Bool) (j : F) → Called g f (x, tt) b j → (j ≡ f) × (b ≡ p (view x.now))) → r ≡ any p l
+    shown_any t m k = any_from_yields_List (λ x. p (view x)) u f r t (YieldsList-from_slice (iter_rest s) refl) k ∙ any_seen view (λ x. p (view x)) p (λ x. refl) (iter_rest s) ∙ ap (any p) m.is
+
+    pub shown_all : ChecksAll fronts g s f r u → Shown view s l → ((x : Bor A) (b : Bool) (j : F) → Called g f (x, tt) b j → (j ≡ f) × (b ≡ p (view x.now))) → r ≡ all p l
+    shown_all t m k = all_from_yields_List (λ x. p (view x)) u f r t (YieldsList-from_slice (iter_rest s) refl) k ∙ each (iter_rest s) ∙ ap (all p) m.is
+      where
+        each : (ys : List A) → list_all (λ x. p (view x)) ys ≡ all p (map view ys)
+        each [] = refl
+        each (y ∷ ys) = ap (λ b. p (view y) && b) (each ys)
+
+  module _ {g : Mut F (Bor (Bor A) × Unit {0}) Bool} (u : Iter A) {C : Type 0} (p : B → Bool) (h : B → C) (d : C) where
+    -- `find` gave y, and what the first that passes gives is z; it gave none
+    pub shown_some : {r : Option (Bor A)} (y : Bor A) {z : C} → FindsItem fronts g s f r u → r ≡ Some y → Shown view s l → z ≡ h (view y.now)
+        → ((x : Bor A) (b : Bool) (j : F) → CalledAt g f x b j → (j ≡ f) × (b ≡ p (view x.now))) → z ≡ from p h d l
+    shown_some {r} y t e m q k = q ∙ found view (λ x. p (view x)) p (λ x. refl) h d (iter_rest s) (first view p u r t e k) ∙ ap (from p h d) m.is
+
+    pub shown_none : {r : Option (Bor A)} {z : C} → FindsItem fronts g s f r u → r ≡ None → Shown view s l → z ≡ d
+        → ((x : Bor A) (b : Bool) (j : F) → CalledAt g f x b j → (j ≡ f) × (b ≡ p (view x.now))) → z ≡ from p h d l
+    shown_none {r} t e m q k = q ∙ none_found view (λ x. p (view x)) p (λ x. refl) h d (iter_rest s) (first view p u r t e k) ∙ ap (from p h d) m.is
+
+    -- `find(..).map_or(d, ..)` gave z; P is what the closure's call says of the element that was found
+    pub shown_map_or : (r : Option (Bor A)) (P : Bor A → Type 0) {z : C} → FindsItem fronts g s f r u → Shown view s l → MatchOption r (z ≡ d) P → ((y : Bor A) → P y → z ≡ h (view y.now))
+        → ((x : Bor A) (b : Bool) (j : F) → CalledAt g f x b j → (j ≡ f) × (b ≡ p (view x.now))) → z ≡ from p h d l
+    shown_map_or r P {z} t m o q k = cases r refl o
+      where
+        cases : (w : Option (Bor A)) → r ≡ w → MatchOption w (z ≡ d) P → z ≡ from p h d l
+        cases None e i = shown_none t e m i k
+        cases (Some y) e i = shown_some y t e m (q y i) k
+
+  -- `fold` gave r; the rules see a value of the fold by `seen`
+  module _ {C D : Type 0} {g : Mut F (C × (Bor A × Unit {0})) C} (seen : C → D) (h : D → B → D) {b r : C} where
+    pub shown_fold : FoldsItems fronts g s f b r → Shown view s l → ((c : C) (x : Bor A) (a : C) (j : F) → Called g f (c, (x, tt)) a j → (j ≡ f) × (seen a ≡ h (seen c) (view x.now))) → seen r ≡ fold h (seen b) l
+    unfolding fold
+    shown_fold t m k =
+        fold_over fronts (λ x. x.now) g (λ ys c. seen c ≡ fold h (seen b) (map view ys)) f step s (iter_rest s) b r (slice_gives s) refl t ∙ ap (fold h (seen b)) m.is
+      where
+        snoc : (c : D) (ys : List B) (y : B) → h (fold h c ys) y ≡ fold h c (ys ++ (y ∷ []))
+        snoc c [] y = refl
+        snoc c (x ∷ ys) y = snoc (h c x) ys y
+
+        step : (ys : List A) (c : C) (x : Bor A) (a : C) (j : F) → seen c ≡ fold h (seen b) (map view ys) → Called g f (c, (x, tt)) a j → (seen a ≡ fold h (seen b) (map view (ys ++ (x.now ∷ [])))) × (j ≡ f)
+        step ys c x a j e w =
+            let q = k c x a j w in
+            (q.1 ∙ ap (λ z. h z (view x.now)) e ∙ snoc (seen b) (map view ys) (view x.now) ∙ ap (fold h (seen b)) (sym (map-append view ys (x.now ∷ []))), q.0)
