@@ -69,23 +69,13 @@ module _ {A B C : Type 0} (view : A → B) (p : A → Bool) (q : B → Bool) (sa
   none_found [] h = refl
   none_found (y ∷ xs) h = by_case (p y) (λ t. let i : None ≡ Some y = rw t at h in cc) (λ t. rw (← same y, t) (none_found xs (rw t at h)))
 
-  -- ys are the entries in use
-  pub found_used : (n : ℕ) (xs : List A) {ys : List A} {x : A} → ys ≡ take n xs → Some x ≡ find p ys → g (view x) ≡ from q g e (counted view n xs)
-  found_used n xs {ys} u h = rw (counted_taken view n xs, ← u) (found ys h)
-
-  pub none_used : (n : ℕ) (xs : List A) {ys : List A} → ys ≡ take n xs → None ≡ find p ys → e ≡ from q g e (counted view n xs)
-  none_used n xs {ys} u h = rw (counted_taken view n xs, ← u) (none_found ys h)
-
--- it is an entry of the table
+-- it is one of them
 find_all : {A : Type 0} (p r : A → Bool) (xs : List A) {x : A} → Some x ≡ find p xs → all r xs ≡ true → r x ≡ true
 find_all p r [] h a = cc
 find_all p r (y ∷ xs) {x} h a =
     by_case (p y)
     (λ t. let i : Some x ≡ Some y = rw t at h in let j : x ≡ y = cc in rw j (and_true (r y) (all r xs) a).0)
     (λ t. find_all p r xs (rw t at h) (and_true (r y) (all r xs) a).1)
-
-pub found_form : {A : Type 0} (p : A → Bool) (k : ℕ) (used unused : A → Bool) (n : ℕ) (xs : List A) {ys : List A} {x : A} → ys ≡ take n xs → Some x ≡ find p ys → table_form k used unused n xs ≡ true → used x ≡ true
-found_form p k used unused n xs u h f = find_all p used (take n xs) (rw u at h) (form_parts k used unused n xs f).in_use
 
 -- an entry of the slice in use
 pub used_form : {A : Type 0} (k : ℕ) (used unused : A → Bool) (n : ℕ) (xs : List A) {ys : List A} (i : ℕ) (d : A) → ys ≡ take n xs → i < length ys → table_form k used unused n xs ≡ true → used (get_or ys i d) ≡ true
@@ -176,6 +166,11 @@ module _ {A B : Type 0} {view : A → B} {s : Iter A} where
 first : {A B F : Type 0} (view : A → B) (p : B → Bool) {s : Iter A} {g : Mut F (Bor (Bor A) × Unit {0}) Bool} {f : F} (u : Iter A) (r : Option (Bor A)) {o : Option (Bor A)} → FindsItem fronts g s f r u → r ≡ o
     → ((x : Bor A) (b : Bool) (j : F) → CalledAt g f x b j → (j ≡ f) × (b ≡ p (view x.now))) → option_map (λ x. x.now) o ≡ find (λ x. p (view x)) (iter_rest s)
 first view p {s} {f = f} u r t e k = ap (option_map (λ x. x.now)) (sym e) ∙ find_from_yields_List (λ x. p (view x)) u f r t (YieldsList-from_slice (iter_rest s) refl) k
+
+-- what `find` gave of the entries in use is in their form
+pub find_form : {A F : Type 0} (p : A → Bool) {s : Iter A} {g : Mut F (Bor (Bor A) × Unit {0}) Bool} {f : F} (u : Iter A) (k : ℕ) (used unused : A → Bool) (n : ℕ) (xs : List A) {ys : List A} {r : Option (Bor A)} (y : Bor A) → FindsItem fronts g s f r u → r ≡ Some y
+    → iter_rest s ≡ ys → ys ≡ take n xs → ((x : Bor A) (b : Bool) (j : F) → CalledAt g f x b j → (j ≡ f) × (b ≡ p x.now)) → table_form k used unused n xs ≡ true → used y.now ≡ true
+find_form p u k used unused n xs {r = r} y t e i m w a = find_all p used (take n xs) (rw (i ∙ m) at (first (λ x. x) p u r t e w)) (form_parts k used unused n xs a).in_use
 
 module _ {A B : Type 0} {view : A → B} {s : Iter A} {l : List B} {F : Type 0} {f : F} where
   module _ {g : Mut F (Bor A × Unit {0}) Bool} {u : Iter A} (p : B → Bool) {r : Bool} where
