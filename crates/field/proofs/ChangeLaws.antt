@@ -32,7 +32,7 @@ use Rattle.lists.proofs.Sift.{Sifting, sift_start, sift_in, sift_out, sift_done}
 use Rattle.field.specs.declared.Field.{Field}
 use Rattle.field.specs.declared.Misfit.{Misfit}
 use Rattle.field.specs.declared.Misfit.TheVariants.{WrongKind, SumTooLarge}
-use Rattle.field.specs.View.{view_field, view_misfit, view_changed, field_form}
+use Rattle.field.specs.View.{view_field, view_misfit, field_form}
 use Rattle.field.proofs.Signed.{held, held_is, fits_are, fits_not, bits_same, bits_other}
 use Rattle.field.proofs.ViewLaws.{members, view_absent, view_number_lem, view_list, by_kind, first_values, few, form_of, is_form}
 
@@ -153,8 +153,8 @@ module _ (f : Field) (v : ℤ) where
     pub add_member : t ≡ true → becomes (view_field f) ≡ change C.add v (view_field f)
     add_member h = sym (add_is v (view_field f) (no_number m) ∙ rw (← at_v, h))
 
-    pub add_new : (r : Result Field Misfit) → t ≡ false → view_changed r ≡ change C.push (held v) (view_field f) → view_changed r ≡ change C.add v (view_field f)
-    add_new r h q =
+    pub add_new : {o : C.Outcome} → t ≡ false → o ≡ change C.push (held v) (view_field f) → o ≡ change C.add v (view_field f)
+    add_new h q =
         rw (to_z-of_z w) at q
         ∙ push_is v (view_field f) (no_number m)
         ∙ sym (add_is v (view_field f) (no_number m) ∙ rw (← at_v, h))

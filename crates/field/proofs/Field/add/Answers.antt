@@ -17,4 +17,4 @@ returns-then-contains-clause-shows c =
 pub returns-clause-shows : goal.returns-clause-shows
 returns-clause-shows c =
     let l = c.in_ok-list.ensures in
-    add_new c.args.self c.args.v _ l.1 _ (search rules) l.0 c.contains.ensures.value _ (search rules) (search rules)
+    add_new c.args.self c.args.v _ l.1 _ (search rules) l.0 c.contains.ensures.value (search rules) (search rules)
