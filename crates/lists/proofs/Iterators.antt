@@ -3,9 +3,10 @@ use native.Mathlib.Omega.{arith}
 use mathlib.Core.Path.{◌≡◌, refl, sym, ◌∙◌, ap}
 use mathlib.Core.Bool.{Bool, true, false, ◌&&◌}
 use mathlib.Core.List.{List, [], ◌∷◌, ◌++◌, append_assoc, append-nil, map}
-use Prim.Native.Nat.{ℕ, ◌+◌, ◌≤◌, ◌<◌}
+use Prim.Native.Nat.{ℕ, ◌+◌, ◌-◌, ◌≤◌, ◌<◌, min}
 use lib.Dec.{ltb}
-use lib.ListN.{length, get_or, set, take, drop, drop_of_length-le, length-append, length-take}
+use lib.ListN.{length, get_or, set, take, drop, drop_of_length-le, length-append, length-take, length-drop}
+use lib.Seq.{take_all}
 use borrow.Author.Tests.{ltb-true, ltb-false}
 use denote.Ref.{Bor}
 use denote.Param.Members.{Mut}
@@ -16,7 +17,7 @@ use Rattle.std.specs.List.{list_any, list_all, find}
 use Rattle.std.specs.Slice.Iter.{iter_rest}
 use Rattle.std.specs.declared.slice.Iter.{Iter}
 use Rattle.std.proofs.lemmas.Fn.{fronts, fold_over, slice_gives}
-use Rattle.std.proofs.lemmas.List.{map-append}
+use Rattle.std.proofs.lemmas.List.{map-append, drop-map}
 use Rattle.std.proofs.lemmas.Iterator.{YieldsList-from_slice}
 use Rattle.std.proofs.lemmas.Iterator.Search.{any_from_yields_List, all_from_yields_List, find_from_yields_List}
 use Rattle.rules.specs.Lists.{any, all, from, pushed}
@@ -26,6 +27,7 @@ use Rattle.lists.specs.Table.{counted, table_form}
 use Rattle.lists.proofs.Loops.{drop_next}
 use Rattle.lists.proofs.Views.{take-map, push_room, push_full}
 use Rattle.lists.proofs.Indexed.{all_index}
+use Rattle.lists.proofs.Parts.{clip_drop}
 use Rattle.lists.proofs.Forms.{form_push, form_parts}
 
 -- the entries in use, seen one by one
@@ -91,6 +93,13 @@ fold_start e = record { rest = e }
 -- over the entries in use
 pub fold_used : {A B C : Type 0} {view : A → B} {f : C → B → C} (n : ℕ) (xs : List A) {ys : List A} {whole b : C} → ys ≡ take n xs → whole ≡ fold f b (counted view n xs) → Folding view f ys whole b 0
 fold_used {view = view} {f} n xs {b = b} u e = rw u (fold_start (e ∙ ap (fold f b) (counted_taken view n xs)))
+
+-- over those of them from one on
+pub fold_rest : {A B C : Type 0} {view : A → B} {f : C → B → C} (n : ℕ) (xs : List A) (k : ℕ) {at : ℕ} {ys : List A} {whole b : C} → ys ≡ take n xs → at ≡ min k (length ys) → whole ≡ fold f b (drop k (counted view n xs)) → Folding view f (take (length ys - at) (drop at ys)) whole b 0
+fold_rest {view = view} {f} n xs k {at} {ys} {b = b} u m e =
+    let all : length (drop at ys) ≤ length ys - at = rw length-drop (omega arith) in
+    let same : take (length ys - at) (drop at ys) ≡ drop k ys = take_all _ _ all ∙ ap (λ (i : ℕ). drop i ys) m ∙ clip_drop k ys in
+    rw same (fold_start (e ∙ ap (fold f b) (rw (counted_taken view n xs, ← u) (drop-map view k ys))))
 
 module _ {A B C : Type 0} {view : A → B} {f : C → B → C} {ys : List A} {whole b : C} {i : ℕ} (inv : Folding view f ys whole b i) where
   pub fold_next : (d : A) {r : C} → i < length ys → r ≡ f b (view (get_or ys i d)) → Folding view f ys whole r (i + 1)
