@@ -16,7 +16,7 @@ use Rattle.lists.specs.Table.{counted, table_form, array_form}
 use Rattle.lists.proofs.Views.{counted-length, counted-at}
 use Rattle.lists.proofs.Indexed.{all_index, all_set, at_index}
 
-all_replicate : {A : Type 0} (p : A → Bool) (k : ℕ) (e : A) → p e ≡ true → all p (replicate k e) ≡ true
+pub all_replicate : {A : Type 0} (p : A → Bool) (k : ℕ) (e : A) → p e ≡ true → all p (replicate k e) ≡ true
 all_replicate p zero e h = refl
 all_replicate p (suc k) e h = both (p e) (all p (replicate k e)) h (all_replicate p k e h)
 

@@ -4,23 +4,23 @@ use mathlib.Core.Path.{◌≡◌, refl, sym, ◌∙◌, ap}
 use mathlib.Core.Bool.{Bool, true, false, ◌&&◌}
 use mathlib.Core.List.{List, [], ◌∷◌, ◌++◌, append_assoc, append-nil, map}
 use Prim.Native.Nat.{ℕ, ◌+◌, ◌-◌, ◌≤◌, ◌<◌, min}
-use lib.Dec.{ltb}
+use lib.Dec.{eqb, ltb}
 use lib.ListN.{length, get_or, set, take, drop, drop_of_length-le, length-append, length-take, length-drop}
 use lib.Seq.{take_all}
 use borrow.Author.Tests.{ltb-true, ltb-false}
 use denote.Ref.{Bor}
 use denote.Param.Members.{Mut}
-use Rattle.std.proofs.Common.{Option, Some, None, MatchOption, option_map}
+use Rattle.std.proofs.Common.{rules, tests, Option, Some, None, MatchOption, option_map}
 use Rattle.std.specs.Fn.{Called, CalledAt}
 use Rattle.std.specs.Iterator.{ChecksAny, ChecksAll, FindsItem, FoldsItems}
 use Rattle.std.specs.List.{list_any, list_all, find}
 use Rattle.std.specs.Slice.Iter.{iter_rest}
 use Rattle.std.specs.declared.slice.Iter.{Iter}
 use Rattle.std.proofs.lemmas.Fn.{fronts, fold_over, slice_gives}
-use Rattle.std.proofs.lemmas.List.{map-append, drop-map}
+use Rattle.std.proofs.lemmas.List.{map-append, map-id, drop-map}
 use Rattle.std.proofs.lemmas.Iterator.{YieldsList-from_slice}
 use Rattle.std.proofs.lemmas.Iterator.Search.{any_from_yields_List, all_from_yields_List, find_from_yields_List}
-use Rattle.rules.specs.Lists.{any, all, from, pushed}
+use Rattle.rules.specs.Lists.{any, all, from, has, pushed}
 use Rattle.rules.proofs.Laws.{by_case, and_true, pushed_room}
 use Rattle.lists.specs.Find.{fold, map_from}
 use Rattle.lists.specs.Table.{counted, table_form}
@@ -180,6 +180,14 @@ first view p {s} {f = f} u r t e k = ap (option_map (λ x. x.now)) (sym e) ∙ f
 pub find_form : {A F : Type 0} (p : A → Bool) {s : Iter A} {g : Mut F (Bor (Bor A) × Unit {0}) Bool} {f : F} (u : Iter A) (k : ℕ) (used unused : A → Bool) (n : ℕ) (xs : List A) {ys : List A} {r : Option (Bor A)} (y : Bor A) → FindsItem fronts g s f r u → r ≡ Some y
     → iter_rest s ≡ ys → ys ≡ take n xs → ((x : Bor A) (b : Bool) (j : F) → CalledAt g f x b j → (j ≡ f) × (b ≡ p x.now)) → table_form k used unused n xs ≡ true → used y.now ≡ true
 find_form p u k used unused n xs {r = r} y t e i m w a = find_all p used (take n xs) (rw (i ∙ m) at (first (λ x. x) p u r t e w)) (form_parts k used unused n xs a).in_use
+
+-- `contains` gave r; E is how it compares an entry with what it looks for
+pub shown_contains : {A B : Type 0} (view : A → B) (E : A → Bool) (p : B → Bool) (ys : List A) {l : List B} {r : Bool} → r ≡ list_any E ys → map view ys ≡ l → ((x : A) → E x ≡ p (view x)) → r ≡ any p l
+shown_contains view E p ys t m k = t ∙ any_seen view E p k ys ∙ ap (any p) m
+
+-- the same of a number
+pub shown_has : (n : ℕ) (l ys : List ℕ) {r : Bool} → r ≡ list_any (λ m. eqb m n) ys → ys ≡ l → r ≡ has n l
+shown_has n l ys t m = shown_contains (λ x. x) (λ x. eqb x n) (λ x. eqb n x) ys t (map-id ys ∙ m) (λ x. search (rules, tests))
 
 module _ {A B : Type 0} {view : A → B} {s : Iter A} {l : List B} {F : Type 0} {f : F} where
   module _ {g : Mut F (Bor A × Unit {0}) Bool} {u : Iter A} (p : B → Bool) {r : Bool} where

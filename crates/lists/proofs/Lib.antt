@@ -9,3 +9,4 @@ pub mod Sift
 pub mod Walks
 pub mod Parts
 pub mod Iterators
+pub mod Kept
