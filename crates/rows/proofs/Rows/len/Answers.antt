@@ -1,13 +1,9 @@
 -- `Rows::len` meets its contract.
-use Rattle.lists.proofs.Views.{counted-few, counted_full}
+use Rattle.std.proofs.Common.{◌≡◌, ◌∙◌, length, min, arith, ap, rules}
+use Rattle.lists.proofs.Views.{counted-length}
 use Rattle.rows.specs.View.{view_rows}
-use borrow.Author.Rules.{rules}
 use Rattle.rows.proofs.Rows.len.Goals as goal
 
-pub returns-then-n-ge-LIMIT : goal.returns-then-n-ge-LIMIT
+pub overflow_cast-result : goal.overflow_cast-result
 unfolding view_rows
-returns-then-n-ge-LIMIT c = search (counted_full, rules)
-
-pub returns : goal.returns
-unfolding view_rows
-returns c = search (counted-few, rules)
+overflow_cast-result c = let e : length c.used.result.now ≡ min c.args.self.count 48 = ap length c.used.ensures ∙ counted-length _ _ _ _ (search rules) in omega arith
