@@ -72,8 +72,7 @@ impl Update {
         ensures form { field_form f ≡ true → field_form result ≡ true }
     {
         if self.is_at(q) {
-            let a = f.changed(self.kind, self.value);
-            return a.field;
+            return f.changed(self.kind, self.value).unwrap_or(f);
         }
         f
     }
