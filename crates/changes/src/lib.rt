@@ -1,7 +1,7 @@
 // One change of one place, and the changes of a session in their order.
 #![tactic(auto)]
 
-ghost use Rattle.std.specs.Prelude.{◌≤◌, ◌≡◌, true, [], length, take, drop};
+ghost use Rattle.std.specs.Prelude.{◌≤◌, ◌≡◌, true, [], length, take, drop, map};
 ghost use Rattle.rules.specs.Limits.{change_limit};
 ghost use Rattle.rules.specs.Lists.{is_empty, pushed};
 ghost use Rattle.rules.specs.Values.{same_place};
@@ -27,10 +27,7 @@ pub struct Update {
 pub fn is_set(kind: u8) -> bool
     ensures { result ≡ is_set (kind_of kind) }
 {
-    if kind == Update::SET {
-        return true;
-    }
-    kind == Update::UNSET
+    matches!(kind, Update::SET | Update::UNSET)
 }
 
 impl Update {
@@ -41,9 +38,8 @@ impl Update {
     pub fn empty() -> Self
         ensures { is_unused result ≡ true }
     {
-        let place = Place::empty();
         Self {
-            place,
+            place: Place::empty(),
             kind: 0,
             value: 0,
         }
@@ -52,18 +48,14 @@ impl Update {
     pub fn is_at(self, q: Place) -> bool
         ensures { result ≡ same_place (view_place q) (view_update self).at }
     {
-        let place = self.place;
-        q.is(place)
+        q.is(self.place)
     }
 
     // It sets or unsets the place.
     pub fn sets(self, q: Place) -> bool
         ensures { result ≡ sets (view_place q) (view_update self) }
     {
-        if self.is_at(q) {
-            return is_set(self.kind);
-        }
-        false
+        self.is_at(q) && is_set(self.kind)
     }
 
     // A place's field after it.
@@ -92,22 +84,24 @@ impl Changes {
         ensures shows { view_changes result ≡ [] }
         ensures form { changes_form result ≡ true }
     {
-        let c = Update::empty();
         Self {
             count: 0,
-            items: [c; Self::LIMIT],
+            items: [Update::empty(); Self::LIMIT],
         }
+    }
+
+    // The changes in use.
+    fn used(&self) -> &[Update]
+        ensures { map view_update result.now ≡ view_changes self.now }
+    {
+        lists::used(&self.items, self.count)
     }
 
     pub fn len(self) -> u8
         ensures counts { result ≡ length (view_changes self) }
         ensures most { result ≤ change_limit }
     {
-        let n = self.count;
-        if Self::LIMIT <= n as usize {
-            return Self::LIMIT as u8;
-        }
-        n
+        self.count.min(Self::LIMIT as u8)
     }
 
     pub fn is_empty(self) -> bool
@@ -121,13 +115,8 @@ impl Changes {
         ensures shows { view_changes result ≡ pushed change_limit (view_changes self) (view_update c) }
         ensures form { is_used c ≡ true → changes_form self ≡ true → changes_form result ≡ true }
     {
-        let at = self.count as usize;
-        if Self::LIMIT <= at {
-            return self;
-        }
         let mut t = self;
-        t.items[at] = c;
-        t.count = self.count + 1;
+        lists::push(&mut t.items, &mut t.count, c);
         t
     }
 
@@ -135,46 +124,23 @@ impl Changes {
     pub fn touches(self, q: Place) -> bool
         ensures { result ≡ touches (view_changes self) (view_place q) }
     {
-        let count = self.count as usize;
-        let mut i: usize = 0;
-        while i < Self::LIMIT {
-            if count <= i {
-                return false;
-            }
-            let change = self.items[i];
-            if change.is_at(q) {
-                return true;
-            }
-            i += 1;
-        }
-        false
+        self.used().iter().any(|c| c.is_at(q))
     }
 
     // Some change is to a place of the key.
     pub fn touches_any(self, key: Key) -> bool
         ensures { result ≡ touched (view_changes self) (view_key key) }
     {
-        let n = key.len();
-        let mut i: u8 = 0;
-        while i < n {
-            let q = key.place(i);
-            if self.touches(q) {
-                return true;
-            }
-            i += 1;
-        }
-        false
+        lists::used(&key.places, key.count)
+            .iter()
+            .any(|q| self.touches(*q))
     }
 
     // The change that stands at i sets or unsets the place, if there is one.
     pub fn sets_at(self, i: u8, q: Place) -> bool
         ensures { result ≡ sets_it (take 1 (drop i (view_changes self))) (view_place q) }
     {
-        if self.len() <= i {
-            return false;
-        }
-        let change = self.items[i as usize];
-        change.sets(q)
+        self.used().get(i as usize).is_some_and(|c| c.sets(q))
     }
 
     // A place's field after all of them.
@@ -182,16 +148,9 @@ impl Changes {
         ensures shows { view_field result ≡ run (view_changes self) (view_place q) (view_field f) }
         ensures form { field_form f ≡ true → field_form result ≡ true }
     {
-        let count = self.count as usize;
         let mut now = f;
-        let mut i: usize = 0;
-        while i < Self::LIMIT {
-            if count <= i {
-                return now;
-            }
-            let c = self.items[i];
+        for c in self.used() {
             now = c.after(q, now);
-            i += 1;
         }
         now
     }

@@ -11,4 +11,4 @@ returns-clause-shows c = refl
 
 pub returns-clause-form : goal.returns-clause-form
 unfolding view_changes counted
-returns-clause-form c = changes_empty _ c.empty-c.ensures
+returns-clause-form c = changes_empty _ c.empty.ensures

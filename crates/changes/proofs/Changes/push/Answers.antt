@@ -1,24 +1,14 @@
 -- `Changes::push` meets its contract.
-use Rattle.lists.proofs.Loops.{length_mapped}
-use Rattle.lists.proofs.Views.{push_room, push_full}
-use Rattle.lists.proofs.Forms.{form_push}
-use Rattle.changes.specs.View.{view_changes}
-use Rattle.changes.specs.Form.{changes_form}
 use borrow.Author.Rules.{rules}
+use Rattle.lists.proofs.Iterators.{push_shows, push_form}
+use Rattle.changes.specs.View.{view_update, view_changes}
+use Rattle.changes.specs.Form.{is_used, is_unused, changes_form}
 use Rattle.changes.proofs.Changes.push.Goals as goal
 
-pub returns-then-at-ge-LIMIT-clause-shows : goal.returns-then-at-ge-LIMIT-clause-shows
-unfolding view_changes
-returns-then-at-ge-LIMIT-clause-shows c = search (push_full, length_mapped, rules)
-
-pub returns-then-at-ge-LIMIT-clause-form : goal.returns-then-at-ge-LIMIT-clause-form
-unfolding view_changes
-returns-then-at-ge-LIMIT-clause-form c = λ u f. f
-
 pub returns-clause-shows : goal.returns-clause-shows
-unfolding view_changes changes_form
-returns-clause-shows c = search (push_room, length_mapped, rules)
+unfolding view_changes
+returns-clause-shows c = let p = c.push.ensures in push_shows 8 c.args.c (search rules) p.item p.one_more p.full p.no_more view_update
 
 pub returns-clause-form : goal.returns-clause-form
-unfolding view_changes changes_form
-returns-clause-form c = search (form_push, rules)
+unfolding changes_form
+returns-clause-form c = let p = c.push.ensures in push_form 8 c.args.c (search rules) p.item p.one_more p.full p.no_more is_used is_unused

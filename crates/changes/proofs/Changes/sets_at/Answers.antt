@@ -1,11 +1,10 @@
 -- `Changes::sets_at` meets its contract.
 use borrow.Author.Rules.{rules}
-use Rattle.lists.proofs.Loops.{length_mapped}
-use Rattle.changes.proofs.ChangeLaws.{sets_past, sets_there}
+use Rattle.keys.specs.View.{view_place}
+use Rattle.changes.proofs.ChangeLaws.{sets_there}
+use Rattle.changes.specs.View.{view_changes}
 use Rattle.changes.proofs.Changes.sets_at.Goals as goal
 
-pub returns-then-len-i : goal.returns-then-len-i
-returns-then-len-i c = search (sets_past, rules)
-
 pub returns : goal.returns
-returns c = search (sets_there, length_mapped, rules)
+returns c =
+    sets_there (view_changes c.args.self) (view_place c.args.q) _ c.used.ensures c.args.i _ _ (λ x p. search rules) c.get.result c.get.ensures.lookup.3 c.is_some_and.ensures

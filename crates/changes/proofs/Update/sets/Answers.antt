@@ -5,5 +5,5 @@ use Rattle.changes.proofs.Update.sets.Goals as goal
 pub returns-then-is_at : goal.returns-then-is_at
 returns-then-is_at c = search sets_here
 
-pub returns : goal.returns
-returns c = search sets_elsewhere
+pub returns-else-is_at : goal.returns-else-is_at
+returns-else-is_at c = search sets_elsewhere
