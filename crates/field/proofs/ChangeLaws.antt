@@ -87,23 +87,26 @@ module _ (f : Field) (v : ℤ) where
   unfolding change
   inc_list n m = rw (view_list f n m)
 
+  abbrev first : ℤ
+  first = get_or f.values 0 (pos 0)
+
   -- o is the sum of the field's number and v, each as a local holds it, where it has 32 bits
-  module _ (o : Option ℤ) (wv : SFits w32 v) (wx : mag (get_or f.values 0 (pos 0)) < 2 ^ 31) (e : SomeIff o (SFits w32 (held (get_or f.values 0 (pos 0)) +ℤ held v)) (held (get_or f.values 0 (pos 0)) +ℤ held v)) (m : f.kind ≡ 1) where
-    sum_is : SomeIff o (SFits w32 (get_or f.values 0 (pos 0) +ℤ v)) (get_or f.values 0 (pos 0) +ℤ v)
-    sum_is = rw (held_is (get_or f.values 0 (pos 0)) wx, to_z-of_z wv) at e
+  module _ (o : Option ℤ) (wv : SFits w32 v) (wx : mag first < 2 ^ 31) (e : SomeIff o (SFits w32 (held first +ℤ held v)) (held first +ℤ held v)) (m : f.kind ≡ 1) where
+    sum_is : SomeIff o (SFits w32 (first +ℤ v)) (first +ℤ v)
+    sum_is = rw (held_is first wx, to_z-of_z wv) at e
 
     pub inc_over : (c : Misfit) → ◌≡◌ {A = Result ℤ Misfit} (Err c) (ok_or o SumTooLarge) → fails (view_misfit c) ≡ change C.inc v (view_field f)
     unfolding change
     inc_over c q = go o sum_is q
       where
-        go : (o : Option ℤ) → SomeIff o (SFits w32 (get_or f.values 0 (pos 0) +ℤ v)) (get_or f.values 0 (pos 0) +ℤ v) → ◌≡◌ {A = Result ℤ Misfit} (Err c) (ok_or o SumTooLarge) → fails (view_misfit c) ≡ change C.inc v (view_field f)
+        go : (o : Option ℤ) → SomeIff o (SFits w32 (first +ℤ v)) (first +ℤ v) → ◌≡◌ {A = Result ℤ Misfit} (Err c) (ok_or o SumTooLarge) → fails (view_misfit c) ≡ change C.inc v (view_field f)
         go None n r = let k : c ≡ SumTooLarge = cc in rw (k, view_number_lem f m, fits_not _ n)
         go (Some s) n r = cc
 
     pub inc_sum : (s : ℤ) (r : Field) → o ≡ Some s → view_field r ≡ S.number (held s) → becomes (view_field r) ≡ change C.inc v (view_field f)
     unfolding change
     inc_sum s r q h =
-        let k : SFits w32 (get_or f.values 0 (pos 0) +ℤ v) × (s ≡ get_or f.values 0 (pos 0) +ℤ v) = rw q at sum_is in
+        let k : SFits w32 (first +ℤ v) × (s ≡ first +ℤ v) = rw q at sum_is in
         rw (view_number_lem f m, fits_are _ k.0, h, k.1, to_z-of_z k.0)
 
   -- ── a number is no list ──

@@ -47,8 +47,12 @@ module _ (l r : List ℤ) (n m : ℕ) (e : length l ≡ n) (k : n + m ≡ member
 abbrev with_values : List ℤ → ℤ → ℤ → List ℤ → List ℤ
 with_values w a b l = put_mid 2 (2 + length l - 2) (set (set w 0 a) 1 b) l
 
+-- as many 0 as w has words from n up to the eighth
+abbrev zeros : ℕ → List ℤ → List ℤ
+zeros n w = replicate (length (take (8 - n) (drop n w))) (pos 0)
+
 abbrev with_all : List ℤ → ℤ → ℤ → List ℤ → List ℤ
-with_all w a b l = put_mid (2 + length l) (8 - (2 + length l)) (with_values w a b l) (replicate (length (take (8 - (2 + length l)) (drop (2 + length l) (with_values w a b l)))) (pos 0))
+with_all w a b l = put_mid (2 + length l) (8 - (2 + length l)) (with_values w a b l) (zeros (2 + length l) (with_values w a b l))
 
 module _ (l : List ℤ) (few : length l ≤ member_limit) (a b : ℤ) where
   written : (w : List ℤ) → words_per_field ≤ length w → with_all w a b l ≡ a ∷ b ∷ (padded l ++ drop words_per_field w)
@@ -68,7 +72,8 @@ module _ (f : Field) {l : List ℤ} (e : l ≡ members f) (few : length l ≤ me
   abbrev lent : List ℤ → List ℤ
   lent ys = put_mid 2 (2 + length l - 2) (set (set w 0 (to_z w32 k)) 1 (to_z w32 (length l))) ys
 
-  pub write_is : {ys zs : List ℤ} → ys ≡ l → zs ≡ replicate (length (take (8 - (2 + length l)) (drop (2 + length l) (lent ys)))) (pos 0) → put_mid (2 + length l) (8 - (2 + length l)) (lent ys) zs ≡ cond (leb words_per_field (length w)) (show (view_field f) ++ drop words_per_field w) w
+  pub write_is : {ys zs : List ℤ} → ys ≡ l → zs ≡ zeros (2 + length l) (lent ys)
+      → put_mid (2 + length l) (8 - (2 + length l)) (lent ys) zs ≡ cond (leb words_per_field (length w)) (show (view_field f) ++ drop words_per_field w) w
   write_is y z =
       let n : length l < 2 ^ 31 = omega arith in
       rw (le-leb _ _ h, z, y, written l few (to_z w32 k) (to_z w32 (length l)) w h, q, kind_shown f, to_z_pos w32 n, e)

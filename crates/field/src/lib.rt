@@ -97,7 +97,9 @@ impl Field {
 
     // The members, where the field is no number; absent is the empty list.
     fn list(&self) -> Result<&[i32], Misfit>
-        ensures { MatchResult result (λ l. (self.now.kind ≢ number_kind) × (l.now ≡ values_of (view_field self.now))) (λ e. (self.now.kind ≡ number_kind) × (e ≡ WrongKind)) }
+        ensures { MatchResult result
+            (λ l. (self.now.kind ≢ number_kind) × (l.now ≡ values_of (view_field self.now)))
+            (λ e. (self.now.kind ≡ number_kind) × (e ≡ WrongKind)) }
     {
         match self.kind {
             Field::NUMBER => Err(Misfit::WrongKind),
