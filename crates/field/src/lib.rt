@@ -4,7 +4,7 @@
 ghost use Rattle.std.specs.Prelude.{◌≡◌, ◌≢◌, ◌≤◌, true, cond, ◌++◌, leb, length, drop, IfOk, MatchResult};
 ghost use Rattle.rules.specs.Limits.{member_limit, words_per_field};
 ghost use Rattle.rules.specs.Values as S;
-ghost use Rattle.rules.specs.Values.{kind_of_field, values_of, show};
+ghost use Rattle.rules.specs.Values.{values_of, show};
 ghost use Rattle.rules.specs.Changes as C;
 ghost use Rattle.rules.specs.Changes.{pull_all, change, kind_of};
 ghost use Rattle.field.specs.declared.Misfit.TheVariants.{WrongKind};
