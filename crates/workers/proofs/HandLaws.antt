@@ -1,19 +1,16 @@
 -- Hands through their view: one law for each way out of a method.
 use Prim.Native.Nat.{ℕ, ◌<◌, ◌≤◌}
 use native.Mathlib.Omega.{arith}
-use mathlib.Core.Path.{◌≡◌, sym, ◌∙◌, ap, fun_ext}
-use mathlib.Core.Bool.{true, false, cond}
+use mathlib.Core.Path.{◌≡◌, ◌∙◌, ap, fun_ext}
+use mathlib.Core.Bool.{true, cond}
 use mathlib.Core.List.{[], ◌∷◌, map}
 use lib.ListN.{length, get_or, set, length-map}
-use lib.Seq.{take_all}
-use lib.Dec.{eqb, ltb}
-use borrow.Author.Tests.{lt-ltb, le-ltb}
+use lib.Dec.{ltb}
+use borrow.Author.Tests.{lt-ltb}
 use Rattle.rules.specs.Limits.{worker_count}
 use Rattle.rules.specs.Lists.{any, override}
 use Rattle.rules.specs.Tables as M
 use Rattle.rules.proofs.Laws.{by_case}
-use Rattle.lists.specs.Table.{counted}
-use Rattle.lists.proofs.Views.{Seeking}
 use Rattle.lists.proofs.Forms.{array_empty, array_at, array_set}
 use Rattle.lists.proofs.Indexed.{at_index, past_index, set_index, copies_same, any_index}
 use Rattle.workers.specs.View.{view_hand, view_hands}
@@ -26,10 +23,6 @@ module _ (h : Hand) where
   unfolding view_hand
   handed_full e = rw e
 
-  pub handed_empty : h.full ≡ false → 0 ≡ M.handed (view_hand h)
-  unfolding view_hand
-  handed_empty e = rw e
-
   pub full_is : h.full ≡ M.full (view_hand h)
   unfolding view_hand
   full_is = by_case h.full (λ e. rw e) (λ e. rw e)
@@ -37,18 +30,6 @@ module _ (h : Hand) where
   pub replied_full : h.full ≡ true → h.replied ≡ M.replied (view_hand h)
   unfolding view_hand
   replied_full e = rw e
-
-  pub replied_empty : h.full ≡ false → false ≡ M.replied (view_hand h)
-  unfolding view_hand
-  replied_empty e = rw e
-
-  pub holds_full : (n : ℕ) → h.full ≡ true → eqb n h.number ≡ M.in_hand n (view_hand h)
-  unfolding view_hand
-  holds_full n e = rw e
-
-  pub holds_empty : (n : ℕ) → h.full ≡ false → false ≡ M.in_hand n (view_hand h)
-  unfolding view_hand
-  holds_empty n e = rw e
 
 -- ── the table ──
 pub hands_empty : (h : Hand) → view_hand h ≡ M.empty → view_hands (record { all = h ∷ h ∷ h ∷ h ∷ [] }) ≡ (λ w. M.empty)
@@ -60,32 +41,27 @@ unfolding hands_form
 hands_form_lem h e = array_empty 4 hand_form h e
 
 module _ (t : Hands) (l : length t.all ≡ 4) where
-  pub hand_past : (w : ℕ) (r : Hand) → 4 ≤ w → view_hand r ≡ M.empty → view_hand r ≡ view_hands t w
+  pub hand_past : (w : ℕ) (r : Hand) → length t.all ≤ w → view_hand r ≡ M.empty → view_hand r ≡ view_hands t w
   unfolding view_hands
-  hand_past w r h e = e ∙ past_index view_hand M.empty t.all w 4 l h
+  hand_past w r h e = e ∙ past_index view_hand M.empty t.all w 4 l (omega arith)
 
-  pub hand_at : (w : ℕ) (d : Hand) → w < 4 → view_hand (get_or t.all w d) ≡ view_hands t w
+  -- r is the entry
+  pub hand_at : (w : ℕ) (r : Hand) → w < length t.all → r ≡ get_or t.all w r → view_hand r ≡ view_hands t w
   unfolding view_hands
-  hand_at w d h = at_index view_hand M.empty t.all w d (omega arith)
+  hand_at w r h e = ap view_hand e ∙ at_index view_hand M.empty t.all w r h
 
-  pub hand_form_lem : (w : ℕ) (d : Hand) → w < 4 → hands_form t ≡ true → hand_form (get_or t.all w d) ≡ true
+  pub hand_form_lem : (w : ℕ) (r : Hand) → w < length t.all → r ≡ get_or t.all w r → hands_form t ≡ true → hand_form r ≡ true
   unfolding hands_form
-  hand_form_lem w d h f = array_at 4 hand_form t.all w d h f
+  hand_form_lem w r h e f = rw e (array_at 4 hand_form t.all w r (omega arith) f)
 
   pub hands_with : (w : ℕ) (h : Hand) → w < 4 → view_hands (record { all = set t.all w h }) ≡ cond (ltb w worker_count) (override (view_hands t) w (view_hand h)) (view_hands t)
   unfolding view_hands
   hands_with w h k = rw (lt-ltb w 4 k) (set_index view_hand M.empty t.all w h (omega arith))
 
-  pub hands_past : (w : ℕ) (h : Hand) → 4 ≤ w → view_hands t ≡ cond (ltb w worker_count) (override (view_hands t) w (view_hand h)) (view_hands t)
-  hands_past w h k = rw (le-ltb w 4 k)
-
   pub with_form : (w : ℕ) (h : Hand) → hands_form t ≡ true → hand_form h ≡ true → hands_form (record { all = set t.all w h }) ≡ true
   unfolding hands_form
   with_form w h f g = array_set 4 hand_form t.all w h f g
 
-  pub any_hand_lem : (n : ℕ) → M.any_hand (view_hands t) n ≡ any (M.in_hand n) (counted view_hand 4 t.all)
-  unfolding view_hands counted
-  any_hand_lem n = any_index (M.in_hand n) M.empty (map view_hand t.all) 4 (length-map t.all view_hand ∙ l) ∙ sym (ap (any (M.in_hand n)) (take_all 4 (map view_hand t.all) (omega (arith, length-map t.all view_hand))))
-
-  pub any_start : (n : ℕ) → Seeking view_hand (M.in_hand n) (λ h. true) false 4 4 t.all (M.any_hand (view_hands t) n) 0
-  any_start n = record { long = l; at = omega arith; rest = any_hand_lem n }
+  pub any_hand_lem : (n : ℕ) → M.any_hand (view_hands t) n ≡ any (M.in_hand n) (map view_hand t.all)
+  unfolding view_hands
+  any_hand_lem n = any_index (M.in_hand n) M.empty (map view_hand t.all) 4 (length-map t.all view_hand ∙ l)

@@ -27,14 +27,6 @@ module _ (q : Queue) where
     lapse_over r e h = h ∙ by_case q.live (λ l. rw (l, ← a, e)) (λ l. rw l)
 
   -- ── whose it is ──
-  pub owned_yes : (w : ℕ) → q.owned ≡ true → eqb w q.owner ≡ M.owned_by w (owner_of q)
-  unfolding owner_of
-  owned_yes w e = rw e
-
-  pub owned_no : (w : ℕ) → q.owned ≡ false → false ≡ M.owned_by w (owner_of q)
-  unfolding owner_of
-  owned_no w e = rw e
-
   module _ (w : ℕ) (t : Bool) (a : t ≡ M.owned_by w (owner_of q)) where
     pub end_own : (r : Queue) → t ≡ true → view_queue r ≡ M.idle → view_queue r ≡ ended w (view_queue q)
     unfolding view_queue owner_of

@@ -46,10 +46,7 @@ impl Hand {
     pub fn handed(self) -> u32
         ensures { result ≡ handed (view_hand self) }
     {
-        if self.full {
-            return self.number;
-        }
-        0
+        if self.full { self.number } else { 0 }
     }
 
     pub fn is_full(self) -> bool
@@ -61,19 +58,13 @@ impl Hand {
     pub fn is_replied(self) -> bool
         ensures { result ≡ replied (view_hand self) }
     {
-        if self.full {
-            return self.replied;
-        }
-        false
+        self.full && self.replied
     }
 
     pub fn holds(self, n: u32) -> bool
         ensures { result ≡ in_hand n (view_hand self) }
     {
-        if self.full {
-            return n == self.number;
-        }
-        false
+        self.full && n == self.number
     }
 
     // The same session after a reply.
@@ -81,11 +72,10 @@ impl Hand {
         ensures shows { view_hand result ≡ holds (handed (view_hand self)) true }
         ensures form { hand_form result ≡ true }
     {
-        let number = self.handed();
         Self {
             full: true,
             replied: true,
-            number,
+            number: self.handed(),
         }
     }
 }
@@ -136,18 +126,16 @@ impl Queue {
         ensures form { queue_form self ≡ true → queue_form result ≡ true }
     {
         if clock::ended(self.since, clock::LEASE_TICKS, clock) {
-            return Self::empty();
+            Self::empty()
+        } else {
+            self
         }
-        self
     }
 
     fn is_owned_by(self, worker: u8) -> bool
         ensures { result ≡ owned_by worker (owner_of self) }
     {
-        if self.owned {
-            return worker == self.owner;
-        }
-        false
+        self.owned && worker == self.owner
     }
 
     // A lease in the worker's name ends.
@@ -155,23 +143,20 @@ impl Queue {
         ensures shows { view_queue result ≡ ended worker (view_queue self) }
         ensures form { queue_form self ≡ true → queue_form result ≡ true }
     {
-        let own = self.is_owned_by(worker);
-        if own {
-            return Self::empty();
+        if !self.is_owned_by(worker) {
+            return self;
         }
-        self
+        Self::empty()
     }
 
     // Or it runs on in nobody's name.
-    pub fn orphaned(self, worker: u8) -> Self
+    pub fn orphaned(mut self, worker: u8) -> Self
         ensures shows { view_queue result ≡ orphaned worker (view_queue self) }
         ensures form { queue_form self ≡ true → queue_form result ≡ true }
     {
         if self.is_owned_by(worker) {
-            let mut q = self;
-            q.owned = false;
-            q.owner = 0;
-            return q;
+            self.owned = false;
+            self.owner = 0;
         }
         self
     }
@@ -190,9 +175,8 @@ impl Hands {
         ensures shows { view_hands result ≡ (λ w. empty) }
         ensures form { hands_form result ≡ true }
     {
-        let h = Hand::empty();
         Self {
-            all: [h; Self::LIMIT],
+            all: [Hand::empty(); Self::LIMIT],
         }
     }
 
@@ -200,39 +184,28 @@ impl Hands {
         ensures shows { view_hand result ≡ view_hands self worker }
         ensures form { hands_form self ≡ true → hand_form result ≡ true }
     {
-        let at = worker as usize;
-        if Self::LIMIT <= at {
-            return Hand::empty();
+        match self.all.get(worker as usize) {
+            Some(h) => *h,
+            None => Hand::empty(),
         }
-        self.all[at]
     }
 
     // Another hand of a worker, if there is such a worker.
-    pub fn with(self, worker: u8, h: Hand) -> Self
+    pub fn with(mut self, worker: u8, h: Hand) -> Self
         ensures shows { view_hands result ≡ cond (ltb worker worker_count) (override (view_hands self) worker (view_hand h)) (view_hands self) }
         ensures form { hands_form self ≡ true → hand_form h ≡ true → hands_form result ≡ true }
     {
-        let w = worker as usize;
-        let mut hands = self;
-        if Self::LIMIT <= w {
-            return hands;
+        let at = worker as usize;
+        if at < Self::LIMIT {
+            self.all[at] = h;
         }
-        hands.all[w] = h;
-        hands
+        self
     }
 
     // Some hand holds the session.
     pub fn any_holds(self, n: u32) -> bool
         ensures { result ≡ any_hand (view_hands self) n }
     {
-        let mut i: usize = 0;
-        while i < Self::LIMIT {
-            let h = self.all[i];
-            if h.holds(n) {
-                return true;
-            }
-            i += 1;
-        }
-        false
+        self.all.iter().any(|h| h.holds(n))
     }
 }

@@ -8,7 +8,7 @@ use Rattle.workers.proofs.Hand.answered.Goals as goal
 
 pub returns-clause-shows : goal.returns-clause-shows
 unfolding view_hand hand_form
-returns-clause-shows c = ap (λ n. M.holds n true) c.handed-number.ensures
+returns-clause-shows c = ap (λ n. M.holds n true) c.handed.ensures
 
 pub returns-clause-form : goal.returns-clause-form
 unfolding view_hand hand_form

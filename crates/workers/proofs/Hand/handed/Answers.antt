@@ -1,9 +1,11 @@
 -- `Hand::handed` meets its contract.
-use Rattle.workers.proofs.HandLaws.{handed_full, handed_empty}
+use Rattle.workers.specs.View.{view_hand}
 use Rattle.workers.proofs.Hand.handed.Goals as goal
 
 pub returns-then-self : goal.returns-then-self
-returns-then-self c = search handed_full
+unfolding view_hand
+returns-then-self c = rw c.if-self.true
 
-pub returns : goal.returns
-returns c = search handed_empty
+pub returns-else-self : goal.returns-else-self
+unfolding view_hand
+returns-else-self c = rw c.if-self.false

@@ -8,8 +8,5 @@ returns-then-is_owned_by-clause-shows c = search cut_own
 pub returns-then-is_owned_by-clause-form : goal.returns-then-is_owned_by-clause-form
 returns-then-is_owned_by-clause-form c = cut_form _
 
-pub returns-clause-shows : goal.returns-clause-shows
-returns-clause-shows c = search cut_other
-
-pub returns-clause-form : goal.returns-clause-form
-returns-clause-form c = λ f. f
+pub returns-else-is_owned_by-clause-shows : goal.returns-else-is_owned_by-clause-shows
+returns-else-is_owned_by-clause-shows c = search cut_other
