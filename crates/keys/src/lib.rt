@@ -51,10 +51,9 @@ impl Key {
         ensures shows { view_key result ≡ [] }
         ensures form { key_form result ≡ true }
     {
-        let q = Place::empty();
         Self {
             count: 0,
-            places: [q; Self::LIMIT],
+            places: [Place::empty(); Self::LIMIT],
         }
     }
 
@@ -136,9 +135,8 @@ impl Keys {
         ensures shows { view_keys result ≡ (λ k. []) }
         ensures form { keys_form result ≡ true }
     {
-        let k = Key::empty();
         Self {
-            all: [k; Self::LIMIT],
+            all: [Key::empty(); Self::LIMIT],
         }
     }
 

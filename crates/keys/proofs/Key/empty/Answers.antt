@@ -11,4 +11,4 @@ returns-clause-shows c = refl
 
 pub returns-clause-form : goal.returns-clause-form
 unfolding view_key counted
-returns-clause-form c = key_form_empty _ c.empty-q.ensures.form
+returns-clause-form c = key_form_empty _ c.empty.ensures.form
