@@ -3,7 +3,7 @@
 
 pub mod batch;
 
-ghost use Rattle.std.specs.Prelude.{min, ◌≡◌, true, [], length, drop};
+ghost use Rattle.std.specs.Prelude.{◌≡◌, true, [], length, drop};
 ghost use Rattle.rules.specs.Limits.{buffer_limit};
 ghost use Rattle.rules.specs.Lists.{is_empty, pushed};
 ghost use Rattle.rules.specs.Changes.{run};
@@ -24,17 +24,6 @@ use field::Field;
 use keys::Place;
 use rows::Rows;
 
-// How many entries are in use, by a table's count.
-fn used(count: u8) -> usize
-    ensures { result ≡ min count buffer_limit }
-{
-    let n = count as usize;
-    if Buffer::LIMIT <= n {
-        return Buffer::LIMIT;
-    }
-    n
-}
-
 #[derive(Clone, Copy)]
 pub struct Buffer {
     pub count: u8,
@@ -48,17 +37,16 @@ impl Buffer {
         ensures shows { view_buffer result ≡ [] }
         ensures form { buffer_form result ≡ true }
     {
-        let b = Batch::empty();
         Self {
             count: 0,
-            batches: [b; Self::LIMIT],
+            batches: [Batch::empty(); Self::LIMIT],
         }
     }
 
     pub fn len(self) -> u8
         ensures { result ≡ length (view_buffer self) }
     {
-        used(self.count) as u8
+        lists::used(&self.batches, self.count).len() as u8
     }
 
     pub fn is_empty(self) -> bool
@@ -71,24 +59,15 @@ impl Buffer {
     pub fn oldest(self) -> u32
         ensures { result ≡ oldest (view_buffer self) }
     {
-        if self.count == 0 {
-            return 0;
-        }
-        self.batches[0].number
+        let batches = lists::used(&self.batches, self.count);
+        batches.first().map_or(0, |b| b.number)
     }
 
     pub fn has(self, n: u32) -> bool
         ensures { result ≡ is_buffered n (view_buffer self) }
     {
-        let count = used(self.count);
-        let mut i: usize = 0;
-        while i < count {
-            if n == self.batches[i].number {
-                return true;
-            }
-            i += 1;
-        }
-        false
+        let batches = lists::used(&self.batches, self.count);
+        batches.iter().any(|b| b.number == n)
     }
 
     // The changes of a buffered session, none if it is not buffered.
@@ -96,51 +75,30 @@ impl Buffer {
         ensures shows { view_changes result ≡ batch_of n (view_buffer self) }
         ensures form { buffer_form self ≡ true → changes_form result ≡ true }
     {
-        let count = used(self.count);
-        let mut i: usize = 0;
-        while i < count {
-            let b = self.batches[i];
-            if n == b.number {
-                return b.changes;
-            }
-            i += 1;
+        let batches = lists::used(&self.batches, self.count);
+        match batches.iter().find(|b| b.number == n) {
+            Some(b) => b.changes,
+            None => Changes::empty(),
         }
-        Changes::empty()
     }
 
     // One more, if there is room.
-    pub fn push(self, b: Batch) -> Self
+    pub fn push(mut self, b: Batch) -> Self
         ensures shows { view_buffer result ≡ pushed buffer_limit (view_buffer self) (view_batch b) }
         ensures form { batch_form b ≡ true → buffer_form self ≡ true → buffer_form result ≡ true }
     {
-        let at = self.count as usize;
-        if Self::LIMIT <= at {
-            return self;
-        }
-        let mut t = self;
-        t.batches[at] = b;
-        t.count = self.count + 1;
-        t
+        lists::push(&mut self.batches, &mut self.count, b);
+        self
     }
 
-    // Without a session, wherever it stands. The others go to the front of a new buffer one by one: `push` takes and gives a whole buffer, which is copied each time.
-    pub fn without(self, n: u32) -> Self
+    // Without a session, wherever it stands.
+    pub fn without(mut self, n: u32) -> Self
         ensures shows { view_buffer result ≡ unbuffer n (view_buffer self) }
         ensures form { buffer_form self ≡ true → buffer_form result ≡ true }
     {
-        let count = used(self.count);
-        let mut kept = Buffer::empty();
-        let mut k: usize = 0;
-        let mut i: usize = 0;
-        while i < count {
-            if n != self.batches[i].number {
-                kept.batches[k] = self.batches[i];
-                k += 1;
-            }
-            i += 1;
-        }
-        kept.count = k as u8;
-        kept
+        let blank = Batch::empty();
+        lists::keep(&mut self.batches, &mut self.count, blank, |b| b.number != n);
+        self
     }
 
     // A place's field after those, from the one that stands at `from` on, that the store does not have yet. The rows are asked here, because
@@ -149,18 +107,13 @@ impl Buffer {
         ensures shows { view_field result ≡ run (changes_in (pending (view_rows rows) (drop from (view_buffer self)))) (view_place q) (view_field f) }
         ensures form { field_form f ≡ true → field_form result ≡ true }
     {
-        let count = used(self.count);
+        let batches = lists::used(&self.batches, self.count);
+        let first = (from as usize).min(batches.len());
         let mut now = f;
-        let mut i = from as usize;
-        while i < count {
-            let b = self.batches[i];
-            let changes = b.changes;
-            if changes.touches(q) {
-                if !rows.has(b.number) {
-                    now = changes.run(q, now);
-                }
+        for b in &batches[first..] {
+            if b.changes.touches(q) && !rows.has(b.number) {
+                now = b.changes.run(q, now);
             }
-            i += 1;
         }
         now
     }
@@ -170,7 +123,6 @@ impl Buffer {
         ensures shows { view_field result ≡ run (changes_in (drop from (view_buffer self))) (view_place q) (view_field f) }
         ensures form { field_form f ≡ true → field_form result ≡ true }
     {
-        let none = Rows::empty();
-        self.carried(from, none, q, f)
+        self.carried(from, Rows::empty(), q, f)
     }
 }

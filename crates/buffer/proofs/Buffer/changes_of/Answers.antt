@@ -1,28 +1,26 @@
 -- `Buffer::changes_of` meets its contract.
 use borrow.Author.Rules.{rules}
-use Rattle.lists.proofs.Loops.{length_mapped}
-use Rattle.lists.proofs.Views.{seek_end}
+use borrow.Author.Tests.{tests}
+use mathlib.Core.Path.{refl}
+use mathlib.Core.List.{[]}
+use lib.Dec.{eqb}
+use Rattle.rules.specs.Tables as M
+use Rattle.lists.proofs.Iterators.{shown_used, shown_some, shown_none, find_form}
 use Rattle.buffer.specs.batch.View.{view_batch}
 use Rattle.buffer.specs.batch.Form.{batch_form}
-use Rattle.buffer.proofs.BufferLaws.{within, seek_used, number_hit, number_next, batch_form_lem}
+use Rattle.buffer.specs.View.{view_buffer}
+use Rattle.buffer.specs.Form.{buffer_form}
+use Rattle.buffer.specs.declared.batch.Batch.{Batch}
 use Rattle.buffer.proofs.Buffer.changes_of.Goals as goal
 
-pub loop-i-init : goal.loop-i-init
-loop-i-init c = search (seek_used, length_mapped)
+pub returns-in-Some-clause-shows : goal.returns-in-Some-clause-shows
+unfolding view_buffer view_batch
+returns-in-Some-clause-shows c = shown_some _ (λ (b : M.Batch). eqb c.args.n b.number) (λ b. b.changes) [] _ c.find.ensures.ran c.in-Some.is (shown_used _ _ c.iter.ensures.rest c.used-batches.ensures) refl (λ x b f k. search (rules, tests))
 
-pub returns-then-n-b-clause-shows : goal.returns-then-n-b-clause-shows
-unfolding view_batch batch_form
-returns-then-n-b-clause-shows c = search (number_hit, within)
+pub returns-in-Some-clause-form : goal.returns-in-Some-clause-form
+unfolding buffer_form batch_form
+returns-in-Some-clause-form c = find_form (λ (b : Batch). eqb c.args.n b.number) _ _ _ _ _ _ _ c.find.ensures.ran c.in-Some.is c.iter.ensures.rest c.used-batches.ensures (λ x b f k. search (rules, tests))
 
-pub returns-then-n-b-clause-form : goal.returns-then-n-b-clause-form
-unfolding view_batch batch_form
-returns-then-n-b-clause-form c = batch_form_lem _ _ _ (search rules)
-
-pub loop-i-preserved : goal.loop-i-preserved
-loop-i-preserved c = number_next c.loop-i.invariant _ (search rules) (search rules) c.if-n-b.false
-
-pub returns-clause-shows : goal.returns-clause-shows
-returns-clause-shows c = search (seek_end, rules)
-
-pub returns-clause-form : goal.returns-clause-form
-returns-clause-form c = λ f. c.empty.ensures.form
+pub returns-in-None-clause-shows : goal.returns-in-None-clause-shows
+unfolding view_buffer view_batch
+returns-in-None-clause-shows c = shown_none _ (λ (b : M.Batch). eqb c.args.n b.number) (λ b. b.changes) [] c.find.ensures.ran c.in-None.is (shown_used _ _ c.iter.ensures.rest c.used-batches.ensures) c.empty.ensures.shows (λ x b f k. search (rules, tests))

@@ -11,4 +11,4 @@ returns-clause-shows c = refl
 
 pub returns-clause-form : goal.returns-clause-form
 unfolding view_buffer counted
-returns-clause-form c = empty_form _ c.empty-b.ensures
+returns-clause-form c = empty_form _ c.empty.ensures

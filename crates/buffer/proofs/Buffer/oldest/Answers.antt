@@ -1,11 +1,7 @@
 -- `Buffer::oldest` meets its contract.
 use borrow.Author.Rules.{rules}
-use Rattle.lists.proofs.Loops.{length_mapped}
-use Rattle.buffer.proofs.BufferLaws.{oldest_none, oldest_is}
+use Rattle.buffer.proofs.BufferLaws.{oldest_is}
 use Rattle.buffer.proofs.Buffer.oldest.Goals as goal
 
-pub returns-then-self-eq0 : goal.returns-then-self-eq0
-returns-then-self-eq0 c = search (oldest_none, rules)
-
 pub returns : goal.returns
-returns c = search (oldest_is, length_mapped, rules)
+returns c = oldest_is _ c.used-batches.ensures c.first.result _ c.first.ensures.value c.map_or.ensures (λ b p. search rules)

@@ -1,24 +1,15 @@
 -- `Buffer::push` meets its contract.
+use borrow.Author.Rules.{rules}
 use Rattle.lists.proofs.Loops.{length_mapped}
-use Rattle.lists.proofs.Views.{push_room, push_full}
-use Rattle.lists.proofs.Forms.{form_push}
+use Rattle.lists.proofs.Iterators.{push_shows, push_form}
 use Rattle.buffer.specs.View.{view_buffer}
 use Rattle.buffer.specs.Form.{buffer_form}
-use borrow.Author.Rules.{rules}
 use Rattle.buffer.proofs.Buffer.push.Goals as goal
 
-pub returns-then-at-ge-LIMIT-clause-shows : goal.returns-then-at-ge-LIMIT-clause-shows
-unfolding view_buffer
-returns-then-at-ge-LIMIT-clause-shows c = search (push_full, length_mapped, rules)
-
-pub returns-then-at-ge-LIMIT-clause-form : goal.returns-then-at-ge-LIMIT-clause-form
-unfolding view_buffer
-returns-then-at-ge-LIMIT-clause-form c = λ u f. f
-
 pub returns-clause-shows : goal.returns-clause-shows
-unfolding view_buffer buffer_form
-returns-clause-shows c = search (push_room, length_mapped, rules)
+unfolding view_buffer
+returns-clause-shows c = let e = c.push.ensures in push_shows 32 _ (search (length_mapped, rules)) e.item e.one_more e.full e.no_more _
 
 pub returns-clause-form : goal.returns-clause-form
-unfolding view_buffer buffer_form
-returns-clause-form c = search (form_push, rules)
+unfolding buffer_form
+returns-clause-form c = let e = c.push.ensures in push_form 32 _ (search (length_mapped, rules)) e.item e.one_more e.full e.no_more _ _
