@@ -57,29 +57,33 @@ impl Store {
         self.fields[i]
     }
 
+    // One change made in place; none where there is no such place.
+    fn make(&mut self, c: Update)
+        ensures shows { view_store self.new ≡ ranged (follow (view_store self.old) (view_update c ∷ [])) }
+        ensures form { store_form self.old ≡ true → store_form self.new ≡ true }
+    {
+        if let Some(i) = index_of(c.place) {
+            self.fields[i] = c.after(c.place, self.fields[i]);
+        }
+    }
+
     // One change made.
-    pub fn changed(self, c: Update) -> Self
+    pub fn changed(mut self, c: Update) -> Self
         ensures shows { view_store result ≡ ranged (follow (view_store self) (view_update c ∷ [])) }
         ensures form { store_form self ≡ true → store_form result ≡ true }
     {
-        let mut t = self;
-        if let Some(i) = index_of(c.place) {
-            t.fields[i] = c.after(c.place, t.fields[i]);
-        }
-        t
+        self.make(c);
+        self
     }
 
-    // Changes made in their order, in place: `changed` takes and gives the whole store, which is copied each time.
-    pub fn follow(self, cs: Changes) -> Self
+    // Changes made in their order.
+    pub fn follow(mut self, cs: Changes) -> Self
         ensures shows { view_store result ≡ ranged (follow (view_store self) (view_changes cs)) }
         ensures form { store_form self ≡ true → store_form result ≡ true }
     {
-        let mut now = self;
         for c in lists::used(&cs.items, cs.count) {
-            if let Some(i) = index_of(c.place) {
-                now.fields[i] = c.after(c.place, now.fields[i]);
-            }
+            self.make(*c);
         }
-        now
+        self
     }
 }

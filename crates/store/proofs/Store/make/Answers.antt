@@ -1,8 +1,8 @@
--- `Store::changed` meets its contract.
+-- `Store::make` meets its contract.
 use Rattle.lists.proofs.Loops.{length_mapped}
 use Rattle.store.proofs.StoreLaws.{changed_past, changed_at, changed_form}
 use borrow.Author.Rules.{rules}
-use Rattle.store.proofs.Store.changed.Goals as goal
+use Rattle.store.proofs.Store.make.Goals as goal
 
 pub returns-in_default-clause-shows : goal.returns-in_default-clause-shows
 returns-in_default-clause-shows c = changed_past _ _ c.in_default.ensures.shows
