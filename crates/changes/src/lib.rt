@@ -90,8 +90,8 @@ impl Changes {
         }
     }
 
-    // The changes in use.
-    fn used(&self) -> &[Update]
+    // The changes, in their order.
+    fn shown(&self) -> &[Update]
         ensures { map view_update result.now ≡ view_changes self.now }
     {
         lists::used(&self.items, self.count)
@@ -111,36 +111,33 @@ impl Changes {
     }
 
     // One more, if there is room.
-    pub fn push(self, c: Update) -> Self
+    pub fn push(mut self, c: Update) -> Self
         ensures shows { view_changes result ≡ pushed change_limit (view_changes self) (view_update c) }
         ensures form { is_used c ≡ true → changes_form self ≡ true → changes_form result ≡ true }
     {
-        let mut t = self;
-        lists::push(&mut t.items, &mut t.count, c);
-        t
+        lists::push(&mut self.items, &mut self.count, c);
+        self
     }
 
     // Some change is to the place.
     pub fn touches(self, q: Place) -> bool
         ensures { result ≡ touches (view_changes self) (view_place q) }
     {
-        self.used().iter().any(|c| c.is_at(q))
+        self.shown().iter().any(|c| c.is_at(q))
     }
 
     // Some change is to a place of the key.
     pub fn touches_any(self, key: Key) -> bool
         ensures { result ≡ touched (view_changes self) (view_key key) }
     {
-        lists::used(&key.places, key.count)
-            .iter()
-            .any(|q| self.touches(*q))
+        key.shown().iter().any(|q| self.touches(*q))
     }
 
     // The change that stands at i sets or unsets the place, if there is one.
     pub fn sets_at(self, i: u8, q: Place) -> bool
         ensures { result ≡ sets_it (take 1 (drop i (view_changes self))) (view_place q) }
     {
-        self.used().get(i as usize).is_some_and(|c| c.sets(q))
+        self.shown().get(i as usize).is_some_and(|c| c.sets(q))
     }
 
     // A place's field after all of them.
@@ -149,7 +146,7 @@ impl Changes {
         ensures form { field_form f ≡ true → field_form result ≡ true }
     {
         let mut now = f;
-        for c in self.used() {
+        for c in self.shown() {
             now = c.after(q, now);
         }
         now

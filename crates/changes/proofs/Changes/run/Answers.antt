@@ -12,7 +12,7 @@ use Rattle.changes.proofs.Changes.run.Goals as goal
 pub loop-c-init : goal.loop-c-init
 loop-c-init c =
     record {
-      shows = fold_start (run_fold _ _ _ ∙ ap (fold (C.field_after (view_place c.args.q)) (view_field c.args.f)) (sym c.used-c-items.ensures));
+      shows = fold_start (run_fold _ _ _ ∙ ap (fold (C.field_after (view_place c.args.q)) (view_field c.args.f)) (sym c.shown-c-items.ensures));
       form = λ f. f;
     }
 

@@ -7,4 +7,4 @@ use Rattle.changes.proofs.Changes.sets_at.Goals as goal
 
 pub returns : goal.returns
 returns c =
-    sets_there (view_changes c.args.self) (view_place c.args.q) _ c.used.ensures c.args.i _ _ (λ x p. search rules) c.get.result c.get.ensures.lookup.3 c.is_some_and.ensures
+    sets_there (view_changes c.args.self) (view_place c.args.q) _ c.shown.ensures c.args.i _ _ (λ x p. search rules) c.get.result c.get.ensures.lookup.3 c.is_some_and.ensures

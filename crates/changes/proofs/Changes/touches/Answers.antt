@@ -9,4 +9,4 @@ use Rattle.changes.proofs.Changes.touches.Goals as goal
 
 pub returns : goal.returns
 returns c =
-    shown_any (λ (u : C.Update). same_place (view_place c.args.q) u.at) c.any.ensures.ran (shown c.iter.ensures.rest c.used.ensures) (λ x b f k. search (rules, tests))
+    shown_any (λ (u : C.Update). same_place (view_place c.args.q) u.at) c.any.ensures.ran (shown c.iter.ensures.rest c.shown.ensures) (λ x b f k. search (rules, tests))

@@ -1,9 +1,9 @@
--- `Changes::used` meets its contract.
+-- `Changes::shown` meets its contract.
 use mathlib.Core.Path.{sym, ◌∙◌, ap}
 use mathlib.Core.List.{map}
 use Rattle.lists.proofs.Iterators.{counted_taken}
 use Rattle.changes.specs.View.{view_update, view_changes}
-use Rattle.changes.proofs.Changes.used.Goals as goal
+use Rattle.changes.proofs.Changes.shown.Goals as goal
 
 pub returns : goal.returns
 unfolding view_changes
