@@ -10,8 +10,5 @@ pub const LEASE_TICKS: u64 = 300;
 pub fn ended(t: u64, k: u64, clock: u64) -> bool
     ensures { result ≡ leb (t + k) clock }
 {
-    if clock < k {
-        return false;
-    }
-    t <= clock - k
+    k <= clock && t <= clock - k
 }
