@@ -96,13 +96,12 @@ pub look_start : (p : ℕ → Bool) (set : ℕ) → set < 2 ^ 64 → Looking p (
 look_start p set h = record { fits = h; left = any_kept (docs set) p documents }
 
 module _ {p : ℕ → Bool} {whole : Bool} {rest : ℕ} (inv : Looking p whole rest) where
-  -- b is what the test of the document answered
-  module _ {d : ℕ} {b : Bool} (n : rest ≡ 0 → ⊥) (e : d ≡ from (docs rest) (λ a. a) document_count documents) (t : b ≡ p d) where
-    pub look_hit : b ≡ true → true ≡ whole
-    look_hit q = sym (inv.left ∙ rw (next_split inv.fits n e, ← t, q) refl)
+  module _ {d : ℕ} (n : rest ≡ 0 → ⊥) (e : d ≡ from (docs rest) (λ a. a) document_count documents) where
+    pub look_hit : p d ≡ true → true ≡ whole
+    look_hit t = sym (inv.left ∙ rw (next_split inv.fits n e, t) refl)
 
-    pub look_next : (r : ℕ) → b ≡ false → r < 2 ^ 64 → docs r ≡ override (docs rest) d false → Looking p whole r
-    look_next r q h o = record { fits = h; left = inv.left ∙ rw (o, next_split inv.fits n e, ← t, q) refl }
+    pub look_next : (r : ℕ) → p d ≡ false → r < 2 ^ 64 → docs r ≡ override (docs rest) d false → Looking p whole r
+    look_next r t h o = record { fits = h; left = inv.left ∙ rw (o, next_split inv.fits n e, t) refl }
 
   pub look_end : rest ≡ 0 → false ≡ whole
   look_end z = sym (inv.left ∙ rw (none_kept z) refl)

@@ -15,30 +15,21 @@ pub const DOCUMENTS: u8 = 64;
 pub fn has(set: u64, d: u8) -> bool
     ensures { result ≡ docs set d }
 {
-    if DOCUMENTS <= d {
-        return false;
-    }
-    (set >> d) % 2 == 1
+    d < DOCUMENTS && (set >> d) % 2 == 1
 }
 
 // The set with document d, if there is such a document.
 pub fn with(set: u64, d: u8) -> u64
     ensures { docs result ≡ override (docs set) d (ltb d document_count) }
 {
-    if d < DOCUMENTS {
-        return set | (1 << d);
-    }
-    set
+    if d < DOCUMENTS { set | (1 << d) } else { set }
 }
 
 // The set without document d.
 pub fn without(set: u64, d: u8) -> u64
     ensures { docs result ≡ override (docs set) d false }
 {
-    if has(set, d) {
-        return set ^ (1 << d);
-    }
-    set
+    if has(set, d) { set ^ (1 << d) } else { set }
 }
 
 // The documents of either set.
@@ -52,21 +43,14 @@ pub fn union(a: u64, b: u64) -> u64
 pub fn count(set: u64) -> u8
     ensures { result ≡ count (docs set) documents }
 {
-    u64::count_ones(set) as u8
+    set.count_ones() as u8
 }
 
 // The lowest document of the set, or their number if it is empty.
 pub fn lowest(set: u64) -> u8
     ensures { result ≡ from (docs set) (λ d. d) document_count documents }
 {
-    u64::trailing_zeros(set) as u8
-}
-
-// Is a tick at most limit?
-fn at_most(tick: u16, limit: u64) -> bool
-    ensures { result ≡ leb tick limit }
-{
-    tick as u64 <= limit
+    set.trailing_zeros() as u8
 }
 
 // Has a document of the set a tick of at most limit?
@@ -74,10 +58,10 @@ pub fn any_over(set: u64, ticks: [u16; DOCUMENTS as usize], limit: u64) -> bool
     ensures { result ≡ any (λ d. docs set d && leb (get_or ticks d 0) limit) documents }
 {
     let mut rest = set;
+    // One turn for each document of the set, the lowest first.
     while rest != 0 {
         let d = lowest(rest);
-        let i = d as usize;
-        if at_most(ticks[i], limit) {
+        if ticks[d as usize] as u64 <= limit {
             return true;
         }
         rest = without(rest, d);

@@ -4,7 +4,7 @@ use Rattle.docset.proofs.SetLaws.{with_is, with_past}
 use Rattle.docset.proofs.with.Goals as goal
 
 pub returns-then-d-lt-DOCUMENTS : goal.returns-then-d-lt-DOCUMENTS
-returns-then-d-lt-DOCUMENTS c = with_is _ _ (search rules)
+returns-then-d-lt-DOCUMENTS c = with_is _ _ c.if-d-lt-DOCUMENTS.true
 
-pub returns : goal.returns
-returns c = search (with_past, rules)
+pub returns-else-d-lt-DOCUMENTS : goal.returns-else-d-lt-DOCUMENTS
+returns-else-d-lt-DOCUMENTS c = search (with_past, rules)

@@ -9,5 +9,5 @@ overflow_shl-result c = search (docs_below, rules)
 pub returns-then-has : goal.returns-then-has
 returns-then-has c = search (without_there, docs_below, rules)
 
-pub returns : goal.returns
-returns c = search without_none
+pub returns-else-has : goal.returns-else-has
+returns-else-has c = search without_none
