@@ -19,14 +19,7 @@ use keys::Key;
 fn since(begun: u64, now: u64) -> u16
     ensures { result ≡ since begun now }
 {
-    if now <= begun {
-        return 0;
-    }
-    let ticks = now - begun;
-    if Session::LAST_GRANT as u64 <= ticks {
-        return Session::LAST_GRANT;
-    }
-    ticks as u16
+    now.saturating_sub(begun).min(Session::LAST_GRANT as u64) as u16
 }
 
 #[derive(Clone, Copy)]
@@ -53,7 +46,6 @@ impl Session {
         ensures shows { view_slot result ≡ record { number = number; session = doomed_session } }
         ensures form { is_bare result ≡ true }
     {
-        let changes = Changes::empty();
         Self {
             number,
             begun: 0,
@@ -61,7 +53,7 @@ impl Session {
             shared: 0,
             exclusive: 0,
             granted: [0; Self::DOCUMENTS],
-            changes,
+            changes: Changes::empty(),
         }
     }
 
@@ -77,7 +69,6 @@ impl Session {
         ensures shows { view_slot result ≡ opened number clock }
         ensures form { session_form result ≡ true }
     {
-        let changes = Changes::empty();
         Self {
             number,
             begun: clock,
@@ -85,7 +76,7 @@ impl Session {
             shared: 0,
             exclusive: 0,
             granted: [0; Self::DOCUMENTS],
-            changes,
+            changes: Changes::empty(),
         }
     }
 
@@ -97,143 +88,110 @@ impl Session {
         Self::bare(self.number)
     }
 
-    pub fn is(self, n: u32) -> bool
-        ensures { result ≡ eqb n (view_slot self).number }
+    pub fn is(&self, n: u32) -> bool
+        ensures { result ≡ eqb n (view_slot self.now).number }
     {
         n == self.number
     }
 
-    pub fn is_doomed(self) -> bool
-        ensures { result ≡ (view_slot self).session.doomed }
+    pub fn is_doomed(&self) -> bool
+        ensures { result ≡ (view_slot self.now).session.doomed }
     {
         self.doomed
     }
 
-    pub fn holds(self, d: u8) -> bool
-        ensures { result ≡ is_held ((view_session self).lease d) }
+    pub fn holds(&self, d: u8) -> bool
+        ensures { result ≡ is_held ((view_session self.now).lease d) }
     {
-        if docset::has(self.exclusive, d) {
-            return true;
-        }
-        docset::has(self.shared, d)
+        docset::has(self.held(), d)
     }
 
-    pub fn holds_exclusive(self, d: u8) -> bool
-        ensures { result ≡ is_exclusive ((view_session self).lease d) }
+    pub fn holds_exclusive(&self, d: u8) -> bool
+        ensures { result ≡ is_exclusive ((view_session self.now).lease d) }
     {
         docset::has(self.exclusive, d)
     }
 
     // Another session than n that holds a document exclusively.
-    pub fn hinders(self, n: u32, d: u8) -> bool
-        ensures { result ≡ not (eqb n (view_slot self).number) && is_exclusive ((view_slot self).session.lease d) }
+    pub fn hinders(&self, n: u32, d: u8) -> bool
+        ensures { result ≡ not (eqb n (view_slot self.now).number) && is_exclusive ((view_slot self.now).session.lease d) }
     {
-        if self.is(n) {
-            return false;
-        }
-        self.holds_exclusive(d)
+        !self.is(n) && self.holds_exclusive(d)
     }
 
     // The documents that it holds.
-    pub fn held(self) -> u64
-        ensures { docs result ≡ (λ d. is_held ((view_session self).lease d)) }
+    pub fn held(&self) -> u64
+        ensures { docs result ≡ (λ d. is_held ((view_session self.now).lease d)) }
     {
         docset::union(self.shared, self.exclusive)
     }
 
-    pub fn exclusive_count(self) -> u8
-        ensures { result ≡ count (held_exclusive (view_session self)) documents }
+    pub fn exclusive_count(&self) -> u8
+        ensures { result ≡ count (held_exclusive (view_session self.now)) documents }
     {
         docset::count(self.exclusive)
     }
 
     // All that it holds but for what it holds exclusively.
-    pub fn shared_count(self) -> u8
-        ensures { result ≡ count (held_shared (view_session self)) documents }
+    pub fn shared_count(&self) -> u8
+        ensures { result ≡ count (held_shared (view_session self.now)) documents }
     {
-        let held = self.held();
-        let all = docset::count(held);
-        let exclusive = self.exclusive_count();
-        all - exclusive
+        docset::count(self.held()) - self.exclusive_count()
     }
 
     // A shared lease on a document, unless it is held, granted some ticks after the begin.
-    fn with_shared(self, d: u8, ticks: u16) -> Self
+    fn with_shared(mut self, d: u8, ticks: u16) -> Self
         ensures shows { view_slot result ≡ remade (λ n s. with_shared_one (s.begun + ticks) d s) (view_slot self) }
         ensures form { session_form self ≡ true → session_form result ≡ true }
     {
         let at = d as usize;
-        if Self::DOCUMENTS <= at {
-            return self;
+        if at < Self::DOCUMENTS && !self.holds(d) {
+            self.shared = docset::with(self.shared, d);
+            self.granted[at] = ticks;
         }
-        if self.holds(d) {
-            return self;
-        }
-        let mut s = self;
-        s.shared = docset::with(self.shared, d);
-        s.granted[at] = ticks;
-        s
+        self
     }
 
     // Shared leases on the documents of a key.
-    pub fn share(self, key: Key, now: u64) -> Self
+    pub fn share(mut self, key: Key, now: u64) -> Self
         ensures shows { view_slot result ≡ remade (λ n. with_shared_at now (within (view_key key))) (view_slot self) }
         ensures form { session_form self ≡ true → session_form result ≡ true }
     {
-        let count = key.count as usize;
         let ticks = since(self.begun, now);
-        let mut s = self;
-        let mut i: usize = 0;
-        while i < Key::LIMIT {
-            if count <= i {
-                return s;
-            }
-            let q = key.places[i];
-            s = s.with_shared(q.document, ticks);
-            i += 1;
+        for q in key.shown() {
+            self = self.with_shared(q.document, ticks);
         }
-        s
+        self
     }
 
     // An exclusive lease on a document; one that is held exclusively keeps its grant.
-    fn with_exclusive(self, d: u8, ticks: u16) -> Self
+    fn with_exclusive(mut self, d: u8, ticks: u16) -> Self
         ensures shows { view_slot result ≡ cond (ltb d document_count) (remade (λ n s. with_exclusive (s.begun + ticks) d s) (view_slot self)) (view_slot self) }
         ensures form { session_form self ≡ true → session_form result ≡ true }
     {
         let at = d as usize;
-        if Self::DOCUMENTS <= at {
-            return self;
+        if at < Self::DOCUMENTS && !docset::has(self.exclusive, d) {
+            self.shared = docset::without(self.shared, d);
+            self.exclusive = docset::with(self.exclusive, d);
+            self.granted[at] = ticks;
         }
-        if docset::has(self.exclusive, d) {
-            return self;
-        }
-        let mut s = self;
-        s.shared = docset::without(self.shared, d);
-        s.exclusive = docset::with(self.exclusive, d);
-        s.granted[at] = ticks;
-        s
+        self
     }
 
     // The change last, if there is room.
-    pub fn with_last(self, c: Update) -> Self
+    pub fn with_last(mut self, c: Update) -> Self
         ensures shows { view_slot result ≡ remade (λ n. with_last (view_update c)) (view_slot self) }
         ensures form { is_used c ≡ true → session_form self ≡ true → session_form result ≡ true }
     {
-        let own = self.changes;
-        let changes = own.push(c);
-        let mut s = self;
-        s.changes = changes;
-        s
+        self.changes = self.changes.push(c);
+        self
     }
 
     // A change of session n in a document does something to it: it is n, or holds the document.
-    pub fn meets(self, n: u32, d: u8) -> bool
-        ensures { result ≡ eqb (view_slot self).number n || is_held ((view_session self).lease d) }
+    pub fn meets(&self, n: u32, d: u8) -> bool
+        ensures { result ≡ eqb (view_slot self.now).number n || is_held ((view_session self.now).lease d) }
     {
-        if self.number == n {
-            return true;
-        }
-        self.holds(d)
+        self.number == n || self.holds(d)
     }
 
     // What a change of session n does to a session: n gets the lease and the change, another holder is doomed.
@@ -241,15 +199,13 @@ impl Session {
         ensures shows { view_slot result ≡ cond (ltb c.place.document document_count) (remade (grant_at now n (view_update c)) (view_slot self)) (view_slot self) }
         ensures form { is_used c ≡ true → session_form self ≡ true → session_form result ≡ true }
     {
-        let place = c.place;
-        let d = place.document;
+        let d = c.place.document;
         if Self::DOCUMENTS <= d as usize {
             return self;
         }
         if self.number == n {
             let ticks = since(self.begun, now);
-            let s = self.with_exclusive(d, ticks);
-            return s.with_last(c);
+            return self.with_exclusive(d, ticks).with_last(c);
         }
         if self.holds(d) {
             return self.doom();
@@ -258,37 +214,29 @@ impl Session {
     }
 
     // A lease of it has lapsed.
-    fn any_lapsed(self, clock: u64) -> bool
-        ensures { result ≡ any (λ d. has_lapsed clock ((view_session self).lease d)) documents }
+    fn any_lapsed(&self, clock: u64) -> bool
+        ensures { result ≡ any (λ d. has_lapsed clock ((view_session self.now).lease d)) documents }
     {
-        if !clock::ended(self.begun, clock::LEASE_TICKS, clock) {
-            return false;
-        }
-        let held = self.held();
-        let granted = self.granted;
-        docset::any_over(held, granted, clock - self.begun - clock::LEASE_TICKS)
+        clock::ended(self.begun, clock::LEASE_TICKS, clock)
+            && docset::any_over(
+                self.held(),
+                self.granted,
+                clock - self.begun - clock::LEASE_TICKS,
+            )
     }
 
     // A lease of it lapses, or its own life.
-    pub fn lapses(self, clock: u64) -> bool
-        ensures { result ≡ lapses clock (view_session self) }
+    pub fn lapses(&self, clock: u64) -> bool
+        ensures { result ≡ lapses clock (view_session self.now) }
     {
-        if self.doomed {
-            return false;
-        }
-        if clock::ended(self.begun, Self::LIFE_TICKS, clock) {
-            return true;
-        }
-        self.any_lapsed(clock)
+        !self.doomed
+            && (clock::ended(self.begun, Self::LIFE_TICKS, clock) || self.any_lapsed(clock))
     }
 
     // The documents that it holds, if it lapses.
-    pub fn lost(self, clock: u64) -> u64
-        ensures { docs result ≡ loses clock (view_slot self) }
+    pub fn lost(&self, clock: u64) -> u64
+        ensures { docs result ≡ loses clock (view_slot self.now) }
     {
-        if self.lapses(clock) {
-            return self.held();
-        }
-        0
+        if self.lapses(clock) { self.held() } else { 0 }
     }
 }

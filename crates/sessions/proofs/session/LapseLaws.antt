@@ -1,12 +1,12 @@
 -- Lapses of a session through its view: one law for each way out of a method.
-use Prim.Native.Nat.{ℕ, ◌+◌, ◌-◌, ◌≤◌}
+use Prim.Native.Nat.{ℕ, ◌+◌, ◌-◌}
 use native.Mathlib.Omega.{arith}
 use mathlib.Core.Path.{◌≡◌, refl, sym, ◌∙◌, ap, fun_ext}
 use mathlib.Core.Bool.{Bool, true, false, cond, ◌&&◌}
 use lib.Dec.{leb}
 use lib.ListN.{get_or}
 use borrow.Author.Tests.{le-leb, lt-leb, leb-true, leb-false}
-use Rattle.rules.specs.Limits.{lease_ticks, session_ticks}
+use Rattle.rules.specs.Limits.{lease_ticks}
 use Rattle.rules.specs.Lists.{any}
 use Rattle.rules.specs.Tables as M
 use Rattle.rules.specs.Effects.{lapses, lapse, loses}
@@ -43,19 +43,17 @@ module _ (b t clock : ℕ) where
 
 module _ (s : Session) (clock : ℕ) where
   module _ (b : Bool) (k : b ≡ leb (s.begun + lease_ticks) clock) where
-    pub lapsed_early : b ≡ false → false ≡ any (λ d. M.has_lapsed clock ((view_session s).lease d)) M.documents
+    pub lapsed_early : b ≡ false → b ≡ any (λ d. M.has_lapsed clock ((view_session s).lease d)) M.documents
     unfolding view_session ticks
     lapsed_early h =
-        sym
+        h
+        ∙ sym
         (any_false (λ d. M.has_lapsed clock ((view_session s).lease d))
         (λ d.
         over_is (docs s.shared) (docs s.exclusive) (ticks s.begun s.granted) clock d
         ∙ ap (λ (x : Bool). M.is_held ((view_session s).lease d) && x) (young s.begun (get_or s.granted d 0) clock (sym k ∙ h))
         ∙ and_false (M.is_held ((view_session s).lease d)) false refl)
         M.documents)
-
-    pub lapse_room : b ≡ true → s.begun + lease_ticks ≤ clock
-    lapse_room h = leb-true (s.begun + lease_ticks) clock (sym k ∙ h)
 
     pub lapsed_late : (u : ℕ) (r : Bool) → b ≡ true → docs u ≡ (λ d. M.is_held ((view_session s).lease d)) → r ≡ any (λ d. docs u d && leb (get_or s.granted d 0) (clock - s.begun - lease_ticks)) M.documents
         → r ≡ any (λ d. M.has_lapsed clock ((view_session s).lease d)) M.documents
@@ -69,19 +67,6 @@ module _ (s : Session) (clock : ℕ) where
         ∙ sym (over_is (docs s.shared) (docs s.exclusive) (ticks s.begun s.granted) clock d)))
 
   -- ── the session ──
-  pub lapse_doomed : s.doomed ≡ true → false ≡ lapses clock (view_session s)
-  unfolding lapses view_session
-  lapse_doomed h = rw h
-
-  module _ (h : s.doomed ≡ false) {b : Bool} (e : b ≡ leb (s.begun + session_ticks) clock) where
-    pub lapse_life : b ≡ true → true ≡ lapses clock (view_session s)
-    unfolding lapses view_session
-    lapse_life t = rw (h, ← e, t)
-
-    pub lapse_lease : (r : Bool) → b ≡ false → r ≡ any (λ d. M.has_lapsed clock ((view_session s).lease d)) M.documents → r ≡ lapses clock (view_session s)
-    unfolding lapses view_session
-    lapse_lease r t q = q ∙ rw (h, ← e, t)
-
   module _ {b : Bool} (e : b ≡ lapses clock (view_session s)) where
     pub lapsed_now : (r : Session) → b ≡ true → view_slot r ≡ M.remade (λ n t. M.doomed_session) (view_slot s) → view_slot r ≡ M.remade (lapse clock) (view_slot s)
     unfolding lapse view_slot

@@ -118,26 +118,6 @@ module _ (s : Session) (d : ℕ) where
   unfolding view_session
   holds_exclusive_is e = e ∙ exclusive_is (docs s.shared) (docs s.exclusive) (ticks s.begun s.granted) d
 
-  module _ {b : Bool} (e : b ≡ docs s.exclusive d) where
-    pub holds_exclusively : b ≡ true → true ≡ M.is_held ((view_session s).lease d)
-    unfolding view_session leases
-    holds_exclusively t = rw (← e, t)
-
-    pub holds_shared : {r : Bool} → b ≡ false → r ≡ docs s.shared d → r ≡ M.is_held ((view_session s).lease d)
-    unfolding view_session leases
-    holds_shared {r} t q = rw (← e, t, ← q) (go r)
-      where
-        go : (x : Bool) → x ≡ M.is_held (cond x (M.shared (ticks s.begun s.granted d)) M.free)
-        go true = refl
-        go false = refl
-
-  module _ (n : ℕ) {b : Bool} (e : b ≡ eqb n (view_slot s).number) where
-    pub hinders_own : b ≡ true → false ≡ not (eqb n (view_slot s).number) && M.is_exclusive ((view_slot s).session.lease d)
-    hinders_own t = rw (← e, t)
-
-    pub hinders_other : {r : Bool} → b ≡ false → r ≡ M.is_exclusive ((view_session s).lease d) → r ≡ not (eqb n (view_slot s).number) && M.is_exclusive ((view_slot s).session.lease d)
-    hinders_other t q = q ∙ ap (λ (x : M.Session). M.is_exclusive (x.lease d)) (slot_session s) ∙ rw (← e, t)
-
 pub union_held : (s : Session) (u : ℕ) → docs u ≡ (λ d. docs s.shared d || docs s.exclusive d) → docs u ≡ (λ d. M.is_held ((view_session s).lease d))
 unfolding view_session
 union_held s u e = e ∙ fun_ext (λ d. held_is (docs s.shared) (docs s.exclusive) (ticks s.begun s.granted) d)
@@ -261,23 +241,10 @@ pub last_shows : (s : Session) (c : Update) (cs : Changes) → view_changes cs �
 unfolding view_slot view_session with_last
 last_shows s c cs e = rw e
 
--- ── whom a change meets ──
-module _ (s : Session) (n d : ℕ) where
-  pub meets_own : s.number ≡ n → true ≡ eqb (view_slot s).number n || M.is_held ((view_session s).lease d)
-  unfolding view_slot
-  meets_own h = rw (eq-eqb s.number n h)
-
-  pub meets_other : {r : Bool} → (s.number ≡ n → ⊥) → r ≡ M.is_held ((view_session s).lease d) → r ≡ eqb (view_slot s).number n || M.is_held ((view_session s).lease d)
-  unfolding view_slot
-  meets_other h e = e ∙ rw (ne_eqb s.number n h)
-
 -- ── the effect of a change on one session, if there is such a document ──
 module _ (s : Session) (n now : ℕ) (c : Update) where
   abbrev Granted : Session → Type 0
   Granted r = view_slot r ≡ cond (ltb c.place.document document_count) (M.remade (grant_at now n (view_update c)) (view_slot s)) (view_slot s)
-
-  pub grant_past : document_count ≤ c.place.document → Granted s
-  grant_past h = rw (le-ltb c.place.document 64 h)
 
   module _ (l : c.place.document < document_count) where
     pub grant_own : (x r : Session) (t : ℕ) → s.number ≡ n → t ≡ since s.begun now → Excluded s c.place.document t x → view_slot r ≡ M.remade (λ n. with_last (view_update c)) (view_slot x) → Granted r

@@ -1,9 +1,8 @@
 -- `Session::hinders` meets its contract.
-use Rattle.sessions.proofs.session.SessionLaws.{hinders_own, hinders_other}
+use borrow.Author.Rules.{rules}
+use Rattle.sessions.specs.session.View.{view_slot}
 use Rattle.sessions.proofs.session.Session.hinders.Goals as goal
 
-pub returns-then-is : goal.returns-then-is
-returns-then-is c = search hinders_own
-
-pub returns : goal.returns
-returns c = search hinders_other
+pub returns-then-not-is : goal.returns-then-not-is
+unfolding view_slot
+returns-then-not-is c = search rules

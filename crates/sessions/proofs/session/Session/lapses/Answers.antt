@@ -1,12 +1,17 @@
 -- `Session::lapses` meets its contract.
-use Rattle.sessions.proofs.session.LapseLaws.{lapse_doomed, lapse_life, lapse_lease}
+use Rattle.std.proofs.Common.{rules}
+use Rattle.rules.specs.Effects.{lapses}
+use Rattle.sessions.specs.session.View.{view_session}
 use Rattle.sessions.proofs.session.Session.lapses.Goals as goal
 
-pub returns-then-self : goal.returns-then-self
-returns-then-self c = search lapse_doomed
-
 pub returns-then-ended : goal.returns-then-ended
-returns-then-ended c = search lapse_life
+unfolding lapses view_session
+returns-then-ended c = search rules
 
-pub returns : goal.returns
-returns c = search lapse_lease
+pub returns-else-ended : goal.returns-else-ended
+unfolding lapses view_session
+returns-else-ended c = search rules
+
+pub returns-else-not-self : goal.returns-else-not-self
+unfolding lapses view_session
+returns-else-not-self c = search rules

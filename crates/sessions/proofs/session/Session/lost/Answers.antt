@@ -5,5 +5,5 @@ use Rattle.sessions.proofs.session.Session.lost.Goals as goal
 pub returns-then-lapses : goal.returns-then-lapses
 returns-then-lapses c = search lost_now
 
-pub returns : goal.returns
-returns c = search lost_not
+pub returns-else-lapses : goal.returns-else-lapses
+returns-else-lapses c = search lost_not

@@ -1,9 +1,13 @@
 -- `Session::meets` meets its contract.
-use Rattle.sessions.proofs.session.SessionLaws.{meets_own, meets_other}
+use Rattle.std.proofs.Common.{arith}
+use Rattle.std.proofs.lemmas.Grind.{common_steps}
+use Rattle.sessions.specs.session.View.{view_slot}
 use Rattle.sessions.proofs.session.Session.meets.Goals as goal
 
 pub returns-then-self-n : goal.returns-then-self-n
-returns-then-self-n c = search meets_own
+unfolding view_slot
+returns-then-self-n c = grind (arith, common_steps)
 
-pub returns : goal.returns
-returns c = meets_other _ _ _ c.if-self-n.false c.holds.ensures
+pub returns-else-self-n : goal.returns-else-self-n
+unfolding view_slot
+returns-else-self-n c = grind (arith, common_steps)

@@ -7,4 +7,4 @@ pub returns-clause-shows : goal.returns-clause-shows
 returns-clause-shows c = search last_shows
 
 pub returns-clause-form : goal.returns-clause-form
-returns-clause-form c = λ u. last_form _ _ (c.push-changes.ensures.form u)
+returns-clause-form c = λ u. last_form _ _ (c.push-self.ensures.form u)
