@@ -3,11 +3,11 @@ use Prim.Native.Nat.{ℕ, ◌+◌, ◌≤◌, ◌<◌, min}
 use native.Mathlib.Omega.{arith}
 use mathlib.Core.Path.{◌≡◌, refl, sym, ◌∙◌, ap, fun_ext}
 use mathlib.Core.Bool.{Bool, true, false, cond, ◌||◌}
-use mathlib.Core.List.{List, [], ◌∷◌, map, map-id}
-use lib.Dec.{eqb, ltb}
-use lib.ListN.{length, get_or, set}
-use lib.Seq.{set-get_or}
-use borrow.Author.Tests.{eq-eqb, ne_eqb, le-leb, lt-leb}
+use mathlib.Core.List.{List, [], ◌∷◌, ◌++◌, map, map-id}
+use lib.Dec.{ltb}
+use lib.ListN.{length, get_or, set, take, drop, length-set, length-map, get_or-append}
+use Rattle.std.proofs.lemmas.List.{set-append_left}
+use borrow.Author.Tests.{le-leb, lt-leb}
 use Rattle.rules.specs.Limits.{document_count}
 use Rattle.rules.specs.Lists.{any, pushed}
 use Rattle.rules.specs.Tables as M
@@ -15,9 +15,10 @@ use Rattle.rules.specs.Effects.{opened, first_doomed, room, loses, is_lost}
 use Rattle.rules.proofs.Laws.{or_zero_lem}
 use Rattle.lists.specs.Find.{fold}
 use Rattle.lists.specs.Table.{counted}
-use Rattle.lists.proofs.Views.{Remaking, remake_start, push_room, push_full, counted-few, counted_full, counted-length}
+use Rattle.lists.proofs.Views.{Remaking, counted-few, counted_full}
 use Rattle.lists.proofs.Ends.{remake_here, remake_done}
-use Rattle.lists.proofs.Forms.{form_empty, form_push, used_at}
+use Rattle.lists.proofs.Iterators.{counted_taken}
+use Rattle.lists.proofs.Forms.{form_empty, used_at}
 use Rattle.lists.proofs.Remake.{form_set}
 use Rattle.docset.specs.Sets.{docs}
 use Rattle.docset.proofs.SetLaws.{docs_none}
@@ -43,36 +44,13 @@ pub unused_form : (s : Session) → is_unused s ≡ true → session_form s ≡ 
 unused_form s e = (unused_parts s e).1.form
 
 -- an entry in use is in form
-pub slot_form : (t : Sessions) (i : ℕ) (d : Session) → i < t.count → sessions_form t ≡ true → session_form (get_or t.slots i d) ≡ true
+slot_form : (t : Sessions) (i : ℕ) (d : Session) → i < t.count → sessions_form t ≡ true → session_form (get_or t.slots i d) ≡ true
 unfolding sessions_form
 slot_form t i d h f = used_at 8 session_form is_unused t.count t.slots i d h f
 
-pub len_is : (t : Sessions) (n : ℕ) → length t.slots ≡ 8 → n ≡ min t.count 8 → n ≡ length (view_sessions t)
+pub len_is : (t : Sessions) {ys : List Session} → ys ≡ take t.count t.slots → length ys ≡ length (view_sessions t)
 unfolding view_sessions
-len_is t n l e = e ∙ sym (counted-length view_slot t.count t.slots 8 l)
-
--- the slot of a number, by the code's test
-pub number_is : (s : Session) (n : ℕ) → n ≡ s.number → eqb n (view_slot s).number ≡ true
-unfolding view_slot
-number_is s n e = eq-eqb n s.number e
-
-pub number_not : (s : Session) (n : ℕ) → (n ≡ s.number → ⊥) → eqb n (view_slot s).number ≡ false
-unfolding view_slot
-number_not s n e = ne_eqb n s.number e
-
--- ── one more ──
-module _ (t : Sessions) (s : Session) (l : length t.slots ≡ 8) where
-  pub slot_room : t.count < 8 → view_sessions (record { count = t.count + 1; slots = set t.slots t.count s }) ≡ pushed 8 (view_sessions t) (view_slot s)
-  unfolding view_sessions
-  slot_room h = push_room view_slot t.count t.slots 8 s l h refl
-
-  pub slot_full : 8 ≤ t.count → view_sessions t ≡ pushed 8 (view_sessions t) (view_slot s)
-  unfolding view_sessions
-  slot_full h = push_full view_slot t.count t.slots 8 (view_slot s) l h
-
-pub push_form : (t : Sessions) (s : Session) → t.count < 8 → session_form s ≡ true → sessions_form t ≡ true → sessions_form (record { count = t.count + 1; slots = set t.slots t.count s }) ≡ true
-unfolding sessions_form
-push_form t s h e f = form_push 8 session_form is_unused t.count t.slots s h e f
+len_is t {ys} e = rw (counted_taken view_slot t.count t.slots, ← e) (sym (length-map ys view_slot))
 
 -- ── room ──
 module _ (t : Sessions) (l : length t.slots ≡ 8) where
@@ -89,37 +67,33 @@ module _ (t : Sessions) (l : length t.slots ≡ 8) where
 pub begun_is : (t u r : Sessions) (s : Session) (n clock : ℕ) → view_sessions u ≡ room (view_sessions t) → view_slot s ≡ opened n clock → view_sessions r ≡ pushed 8 (view_sessions u) (view_slot s) → view_sessions r ≡ pushed 8 (room (view_sessions t)) (opened n clock)
 begun_is t u r s n clock p q e = e ∙ ap (λ (l : List M.Slot). pushed 8 l (view_slot s)) p ∙ ap (pushed 8 (room (view_sessions t))) q
 
--- ── every slot in use made anew, in place; F is what the form needs ──
-pub record Making (F : Type 0) (g : M.Slot → M.Slot) (t r : Sessions) (i : ℕ) : Type 0 where
-  pub count : r.count ≡ t.count
-  pub slots : Remaking view_slot g t.slots 8 r.slots i
-  pub form : F → sessions_form r ≡ true
+-- ── every slot in use made anew, in place: the first m slots of t are lent, and are now vs; F is what the form needs ──
+abbrev pub given : Sessions → ℕ → List Session → Sessions
+given t m vs = record { count = t.count; slots = vs ++ drop m t.slots }
 
-pub make_start : {F : Type 0} {g : M.Slot → M.Slot} {t : Sessions} → length t.slots ≡ 8 → (F → sessions_form t ≡ true) → Making F g t t 0
-make_start l f = record { count = refl; slots = remake_start l; form = f }
+pub record Making (F : Type 0) (g : M.Slot → M.Slot) (t : Sessions) (m : ℕ) (vs : List Session) (i : ℕ) : Type 0 where
+  pub end : m ≡ min t.count 8
+  pub long : length vs ≡ m
+  pub slots : Remaking view_slot g t.slots 8 (vs ++ drop m t.slots) i
+  pub form : F → sessions_form (given t m vs) ≡ true
 
-module _ {F : Type 0} {g : M.Slot → M.Slot} {t r : Sessions} {i : ℕ} (inv : Making F g t r i) where
-  -- u is what a test left: the slot written, or as it was
-  pub make_new : (d s : Session) (u : Sessions) → i < min t.count 8 → view_slot s ≡ g (view_slot (get_or r.slots i d)) → (F → session_form (get_or r.slots i d) ≡ true → session_form s ≡ true)
-      → u ≡ record { count = r.count; slots = set r.slots i s } → Making F g t u (i + 1)
+module _ {F : Type 0} {g : M.Slot → M.Slot} {t : Sessions} {m : ℕ} {vs : List Session} {i : ℕ} (inv : Making F g t m vs i) where
+  pub make_next : (d s : Session) → i < length vs → view_slot s ≡ g (view_slot (get_or vs i d)) → (F → session_form (get_or vs i d) ≡ true → session_form s ≡ true) → Making F g t m (set vs i s) (i + 1)
   unfolding sessions_form
-  make_new d s u h e f q =
-      let m : i < r.count = omega (arith, inv.count) in
-      rw q
-      (record {
-        count = inv.count;
-        slots = remake_here inv.slots d (omega arith) e;
-        form = λ a. form_set 8 session_form is_unused r.count r.slots i s m (f a (slot_form r i d m (inv.form a))) (inv.form a);
-      })
+  make_next d s h e f =
+      let q = set-append_left vs (drop m t.slots) i s h in
+      let o : get_or (vs ++ drop m t.slots) i d ≡ get_or vs i d = get_or-append vs (drop m t.slots) d i h in
+      let k : i < t.count = omega (arith, inv.end, inv.long) in
+      record {
+        end = inv.end;
+        long = length-set vs i s ∙ inv.long;
+        slots = rw q at (remake_here inv.slots d {r = s} (omega (arith, inv.end, inv.long)) (rw o e));
+        form = λ a. rw q at (form_set 8 session_form is_unused t.count (vs ++ drop m t.slots) i s k (f a (rw o at (slot_form (given t m vs) i d k (inv.form a)))) (inv.form a));
+      }
 
-  pub make_same : (d : Session) (u : Sessions) → i < min t.count 8 → view_slot (get_or r.slots i d) ≡ g (view_slot (get_or r.slots i d)) → u ≡ r → Making F g t u (i + 1)
-  make_same d u h e q =
-      rw q
-      (record { count = inv.count; slots = rw (set-get_or r.slots i d) at (remake_here inv.slots d (omega arith) e); form = inv.form })
-
-  pub make_end : min t.count 8 ≤ i → view_sessions r ≡ map g (view_sessions t)
+  pub make_end : {rest : List Session} → length vs ≤ i → rest ≡ drop m t.slots → view_sessions (record { count = t.count; slots = vs ++ rest }) ≡ map g (view_sessions t)
   unfolding view_sessions
-  make_end h = rw inv.count (remake_done inv.slots t.count h)
+  make_end h e = rw e (remake_done inv.slots t.count (omega (arith, inv.end, inv.long)))
 
 -- a test that is the same for each is one for all
 each_if : (b : Bool) (g : M.Slot → M.Slot) (l : List M.Slot) → map (λ s. cond b (g s) s) l ≡ cond b (map g l) l

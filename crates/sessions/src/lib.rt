@@ -3,7 +3,7 @@
 
 pub mod session;
 
-ghost use Rattle.std.specs.Prelude.{◌≡◌, true, cond, [], min, ltb, length};
+ghost use Rattle.std.specs.Prelude.{◌≡◌, true, cond, [], ltb, length, take};
 ghost use Rattle.rules.specs.Limits.{document_count, slot_limit};
 ghost use Rattle.rules.specs.Lists.{any, pushed};
 ghost use Rattle.rules.specs.Tables.{has_slot, session, each, freed, others_exclusive};
@@ -34,123 +34,78 @@ impl Sessions {
         ensures shows { view_sessions result ≡ [] }
         ensures form { sessions_form result ≡ true }
     {
-        let s = Session::empty();
         Self {
             count: 0,
-            slots: [s; Self::LIMIT],
+            slots: [Session::empty(); Self::LIMIT],
         }
     }
 
-    // How many slots of a count are in use.
-    fn used(count: u8) -> usize
-        ensures { result ≡ min count slot_limit }
+    // The slots in use.
+    fn used(&self) -> &[Session]
+        ensures { result.now ≡ take self.now.count self.now.slots }
     {
-        let n = count as usize;
-        if Self::LIMIT <= n {
-            return Self::LIMIT;
-        }
-        n
+        lists::used(&self.slots, self.count)
     }
 
-    pub fn len(self) -> u8
-        ensures { result ≡ length (view_sessions self) }
+    pub fn len(&self) -> u8
+        ensures { result ≡ length (view_sessions self.now) }
     {
-        Self::used(self.count) as u8
+        self.used().len() as u8
     }
 
     // The number has a slot.
-    pub fn has(self, n: u32) -> bool
-        ensures { result ≡ has_slot n (view_sessions self) }
+    pub fn has(&self, n: u32) -> bool
+        ensures { result ≡ has_slot n (view_sessions self.now) }
     {
-        let end = Self::used(self.count);
-        let mut i: usize = 0;
-        while i < end {
-            if n == self.slots[i].number {
-                return true;
-            }
-            i += 1;
-        }
-        false
+        self.used().iter().any(|s| s.is(n))
     }
 
     // The session of a number; a number without a slot has the empty one.
-    pub fn session(self, n: u32) -> Session
-        ensures shows { view_session result ≡ session n (view_sessions self) }
-        ensures form { sessions_form self ≡ true → session_form result ≡ true }
+    pub fn session(&self, n: u32) -> Session
+        ensures shows { view_session result ≡ session n (view_sessions self.now) }
+        ensures form { sessions_form self.now ≡ true → session_form result ≡ true }
     {
-        let end = Self::used(self.count);
-        let mut i: usize = 0;
-        while i < end {
-            if n == self.slots[i].number {
-                return self.slots[i];
-            }
-            i += 1;
+        match self.used().iter().find(|s| s.is(n)) {
+            Some(s) => *s,
+            None => Session::empty(),
         }
-        Session::empty()
     }
 
     // Another session than n holds the document exclusively.
-    pub fn others_exclusive(self, n: u32, d: u8) -> bool
-        ensures { result ≡ others_exclusive n d (view_sessions self) }
+    pub fn others_exclusive(&self, n: u32, d: u8) -> bool
+        ensures { result ≡ others_exclusive n d (view_sessions self.now) }
     {
-        let end = Self::used(self.count);
-        let mut i: usize = 0;
-        while i < end {
-            if self.slots[i].hinders(n, d) {
-                return true;
-            }
-            i += 1;
-        }
-        false
+        self.used().iter().any(|s| s.hinders(n, d))
     }
 
-    pub fn any_doomed(self) -> bool
-        ensures { result ≡ any (λ s. s.session.doomed) (view_sessions self) }
+    pub fn any_doomed(&self) -> bool
+        ensures { result ≡ any (λ s. s.session.doomed) (view_sessions self.now) }
     {
-        let end = Self::used(self.count);
-        let mut i: usize = 0;
-        while i < end {
-            if self.slots[i].doomed {
-                return true;
-            }
-            i += 1;
-        }
-        false
+        self.used().iter().any(|s| s.doomed)
     }
 
     // The number of the first doomed session, 0 if there is none.
-    pub fn first_doomed(self) -> u32
-        ensures { result ≡ first_doomed (view_sessions self) }
+    pub fn first_doomed(&self) -> u32
+        ensures { result ≡ first_doomed (view_sessions self.now) }
     {
-        let end = Self::used(self.count);
-        let mut i: usize = 0;
-        while i < end {
-            if self.slots[i].doomed {
-                return self.slots[i].number;
-            }
-            i += 1;
-        }
-        0
+        self.used()
+            .iter()
+            .find(|s| s.doomed)
+            .map_or(0, |s| s.number)
     }
 
     // The slot of n is free.
-    pub fn freed(self, n: u32) -> Self
+    pub fn freed(mut self, n: u32) -> Self
         ensures shows { view_sessions result ≡ freed n (view_sessions self) }
         ensures form { sessions_form self ≡ true → sessions_form result ≡ true }
     {
-        let end = Self::used(self.count);
-        let mut kept = Self::empty();
-        let mut k: usize = 0;
-        let mut i: usize = 0;
-        while i < end {
-            if n != self.slots[i].number {
-                kept.slots[k] = self.slots[i];
-                k += 1;
-            }
-            i += 1;
-        }
-        kept.count = k as u8;
-        kept
+        lists::keep(
+            &mut self.slots,
+            &mut self.count,
+            Session::empty(),
+            |s| !s.is(n),
+        );
+        self
     }
 
     // If every slot is in use, the first doomed session gives way.
@@ -158,8 +113,7 @@ impl Sessions {
         ensures shows { view_sessions result ≡ room (view_sessions self) }
         ensures form { sessions_form self ≡ true → sessions_form result ≡ true }
     {
-        let count = self.count as usize;
-        if count < Self::LIMIT {
+        if (self.count as usize) < Self::LIMIT {
             return self;
         }
         self.freed(self.first_doomed())
@@ -170,82 +124,61 @@ impl Sessions {
         ensures shows { view_sessions result ≡ pushed slot_limit (room (view_sessions self)) (opened number clock) }
         ensures form { sessions_form self ≡ true → sessions_form result ≡ true }
     {
-        let s = Session::opened(number, clock);
         let mut t = self.room();
-        let at = t.count as usize;
-        if Self::LIMIT <= at {
-            return t;
-        }
-        t.slots[at] = s;
-        t.count = t.count + 1;
+        lists::push(&mut t.slots, &mut t.count, Session::opened(number, clock));
         t
     }
 
     // After a change of session n: it has the lease and the change, and the other holders are doomed.
-    pub fn changed(self, n: u32, c: Update, now: u64) -> Self
+    pub fn changed(mut self, n: u32, c: Update, now: u64) -> Self
         ensures shows { view_sessions result ≡ cond (ltb c.place.document document_count) (each (grant_at now n (view_update c)) (view_sessions self)) (view_sessions self) }
         ensures form { is_used c ≡ true → sessions_form self ≡ true → sessions_form result ≡ true }
     {
-        let place = c.place;
-        let end = Self::used(self.count);
-        let mut t = self;
-        let mut i: usize = 0;
-        while i < end {
-            if t.slots[i].meets(n, place.document) {
-                let s = t.slots[i].grant(n, c, now);
-                t.slots[i] = s;
+        let end = (self.count as usize).min(Self::LIMIT);
+        // Split and not sliced: a proof knows what is left of both parts, and nothing of a field after a range of it was lent.
+        for s in self.slots.split_at_mut(end).0 {
+            if s.meets(n, c.place.document) {
+                *s = s.grant(n, c, now);
             }
-            i += 1;
         }
-        t
+        self
     }
 
     // After a read of session n: it has shared leases on the documents of the key.
-    pub fn shared(self, n: u32, key: Key, now: u64) -> Self
+    pub fn shared(mut self, n: u32, key: Key, now: u64) -> Self
         ensures shows { view_sessions result ≡ each (only_at n (with_shared_at now (within (view_key key)))) (view_sessions self) }
         ensures form { sessions_form self ≡ true → sessions_form result ≡ true }
     {
-        let end = Self::used(self.count);
-        let mut t = self;
-        let mut i: usize = 0;
-        while i < end {
-            if n == t.slots[i].number {
-                let s = t.slots[i].share(key, now);
-                t.slots[i] = s;
+        let end = (self.count as usize).min(Self::LIMIT);
+        for s in self.slots.split_at_mut(end).0 {
+            if s.is(n) {
+                *s = s.share(key, now);
             }
-            i += 1;
         }
-        t
+        self
     }
 
     // When the clock is at a tick: the sessions that lapse are doomed.
-    pub fn lapsed(self, clock: u64) -> Self
+    pub fn lapsed(mut self, clock: u64) -> Self
         ensures shows { view_sessions result ≡ each (lapse clock) (view_sessions self) }
         ensures form { sessions_form self ≡ true → sessions_form result ≡ true }
     {
-        let end = Self::used(self.count);
-        let mut t = self;
-        let mut i: usize = 0;
-        while i < end {
-            if t.slots[i].lapses(clock) {
-                let s = t.slots[i].doom();
-                t.slots[i] = s;
+        let end = (self.count as usize).min(Self::LIMIT);
+        for s in self.slots.split_at_mut(end).0 {
+            if s.lapses(clock) {
+                *s = s.doom();
             }
-            i += 1;
         }
-        t
+        self
     }
 
     // The documents that the sessions that lapse hold.
-    pub fn lost(self, clock: u64) -> u64
-        ensures { docs result ≡ is_lost clock (view_sessions self) }
+    pub fn lost(&self, clock: u64) -> u64
+        ensures { docs result ≡ is_lost clock (view_sessions self.now) }
     {
-        let end = Self::used(self.count);
-        let mut set: u64 = 0;
-        let mut i: usize = 0;
-        while i < end {
-            set = docset::union(set, self.slots[i].lost(clock));
-            i += 1;
+        let mut set = 0;
+        for s in self.used() {
+            set = docset::union(set, s.lost(clock));
         }
         set
     }

@@ -14,7 +14,7 @@ use Rattle.rules.specs.Values as S
 use Rattle.rules.specs.Tables as M
 use Rattle.rules.specs.Effects.{opened, document_in, or_shared, with_shared, to_exclusive, with_exclusive, with_last, grant, only_at}
 use Rattle.rules.specs.Step.{count, held_shared, held_exclusive}
-use Rattle.rules.proofs.Laws.{by_case, and_true, or_false}
+use Rattle.rules.proofs.Laws.{by_case, and_true, or_false, eqb-sym}
 use Rattle.rules.proofs.Tests.{all_head, all_tail}
 use Rattle.lists.specs.Find.{fold}
 use Rattle.lists.proofs.Views.{either}
@@ -206,13 +206,14 @@ within_all [] h = refl
 within_all (q ∷ qs) h = rw ((and_true (ltb q.document 64) (ltb q.field 4) (all_head S.in_range q qs h)).0, within_all qs (all_tail S.in_range q qs h))
 
 module _ (s : Session) (n : ℕ) (f : M.Session → M.Session) where
-  pub own_is : (r : Session) → n ≡ s.number → view_slot r ≡ M.remade (λ m. f) (view_slot s) → view_slot r ≡ M.remade (only_at n f) (view_slot s)
-  unfolding only_at view_slot
-  own_is r h e = e ∙ rw (eq-eqb s.number n (sym h))
+  module _ {b : Bool} (i : b ≡ eqb n (view_slot s).number) where
+    pub own_is : (r : Session) → b ≡ true → view_slot r ≡ M.remade (λ m. f) (view_slot s) → view_slot r ≡ M.remade (only_at n f) (view_slot s)
+    unfolding only_at view_slot
+    own_is r h e = e ∙ rw (eq-eqb s.number n (sym (eqb-true n s.number (sym i ∙ h))))
 
-  pub own_other : (n ≡ s.number → ⊥) → view_slot s ≡ M.remade (only_at n f) (view_slot s)
-  unfolding only_at view_slot
-  own_other h = rw (ne_eqb s.number n (λ e. h (sym e)))
+    pub own_other : b ≡ false → view_slot s ≡ M.remade (only_at n f) (view_slot s)
+    unfolding only_at view_slot
+    own_other h = rw (eqb-sym n s.number (sym i ∙ h))
 
 -- ── an exclusive lease, t ticks after the begin, if there is such a document ──
 module _ (s : Session) (d t : ℕ) where

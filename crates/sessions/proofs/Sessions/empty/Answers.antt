@@ -6,4 +6,4 @@ pub returns-clause-shows : goal.returns-clause-shows
 returns-clause-shows c = none_shown _
 
 pub returns-clause-form : goal.returns-clause-form
-returns-clause-form c = none_form _ c.empty-s.ensures.form
+returns-clause-form c = none_form _ c.empty.ensures.form

@@ -4,14 +4,8 @@ use Rattle.sessions.proofs.SessionsLaws.{room_there, room_made}
 use borrow.Author.Rules.{rules}
 use Rattle.sessions.proofs.Sessions.room.Goals as goal
 
-pub returns-then-count-lt-LIMIT-clause-shows : goal.returns-then-count-lt-LIMIT-clause-shows
-returns-then-count-lt-LIMIT-clause-shows c = room_there _ (search (length_mapped, rules)) c.if-count-lt-LIMIT.true
-
-pub returns-then-count-lt-LIMIT-clause-form : goal.returns-then-count-lt-LIMIT-clause-form
-returns-then-count-lt-LIMIT-clause-form c = λ f. f
+pub returns-then-self-lt-LIMIT-clause-shows : goal.returns-then-self-lt-LIMIT-clause-shows
+returns-then-self-lt-LIMIT-clause-shows c = room_there _ (search (length_mapped, rules)) c.if-self-lt-LIMIT.true
 
 pub returns-clause-shows : goal.returns-clause-shows
 returns-clause-shows c = search (room_made, length_mapped, rules)
-
-pub returns-clause-form : goal.returns-clause-form
-returns-clause-form c = c.freed.ensures.form
