@@ -5,8 +5,10 @@ use mathlib.Core.Path.{◌≡◌, refl, sym, ◌∙◌, ap}
 use mathlib.Core.Bool.{Bool, true, false, not}
 use mathlib.Core.List.{[], List, ◌∷◌, ◌++◌, map}
 use lib.ListN.{length, get_or, set, take, drop, replicate, length-append, length-drop, length-take}
-use lib.Seq.{length-take-le, get_or-drop, drop-cons, set_at, take_at, drop_at}
+use lib.Seq.{length-take-le, drop-cons, set_at, take_at, drop_at}
 use lib.Dec.{eqb}
+use Rattle.std.specs.List.{copy_within}
+use Rattle.std.proofs.Common.{zero-add}
 use Rattle.rules.specs.Lists.{any, all, keep}
 use Rattle.rules.specs.Values as S
 use Rattle.rules.specs.Changes as C
@@ -21,7 +23,6 @@ use Rattle.keys.specs.declared.Place.{Place}
 use Rattle.keys.specs.declared.Key.{Key}
 use Rattle.keys.specs.declared.Keys.{Keys}
 use Rattle.lists.specs.Table.{counted}
-use Rattle.lists.proofs.Loops.{filled, fill_step}
 use Rattle.lists.proofs.Views.{counted-length, take-map, Remaking, remake_start}
 use Rattle.lists.proofs.Indexed.{any_false}
 use Rattle.lists.proofs.Forms.{form_parts, parts_form, form_empty, used_at}
@@ -33,7 +34,7 @@ use Rattle.cache.proofs.cached.CachedLaws.{blank_cached}
 use Rattle.cache.specs.View.{view_cache}
 use Rattle.cache.specs.Form.{cache_form}
 use Rattle.cache.specs.declared.Cache.{Cache}
-use Rattle.lists.proofs.Ends.{filled_later, remake_here, remake_done}
+use Rattle.lists.proofs.Ends.{remake_here, remake_done}
 
 -- ── the table ──
 pub cache_empty : (c : Cached) → view_cached c ≡ no_cached → cached_form c ≡ true → cache_form (record { count = 0; entries = replicate 16 c }) ≡ true
@@ -45,7 +46,7 @@ unfolding cache_form
 entry_form t i d h e = used_at 16 cached_form is_blank_cached t.count t.entries i d h e
 
 -- how many entries are in use
-pub length_is : (t : Cache) (n : ℕ) → length t.entries ≡ 16 → n ≡ length (view_cache t) → n ≡ min t.count 16
+length_is : (t : Cache) (n : ℕ) → length t.entries ≡ 16 → n ≡ length (view_cache t) → n ≡ min t.count 16
 unfolding view_cache
 length_is t n l e = e ∙ counted-length view_cached t.count t.entries 16 l
 
@@ -59,35 +60,13 @@ take_rest zero [] = refl
 take_rest (suc j) [] = refl
 take_rest j (x ∷ xs) = refl
 
--- the first n of k entries are being moved down by one, those after them stay
-pub record Shifting {A : Type 0} (xs : List A) (k n : ℕ) (vs : List A) (j : ℕ) : Type 0 where
-  pub long : length xs ≡ k
-  pub few : n ≤ k
-  pub at : j < n
-  pub rest : vs ≡ filled (drop 1 xs) xs j
-
-module _ {A : Type 0} {xs : List A} {k n : ℕ} {vs : List A} {j : ℕ} (inv : Shifting xs k n vs j) where
-  within : j + 1 ≤ length xs
-  within = omega (arith, inv.long, inv.few, inv.at)
-
-  pub shift_next : (e : A) → j + 1 < n → Shifting xs k n (set vs j (get_or vs (j + 1) e)) (j + 1)
-  shift_next e h =
-      let m : j + 1 < length xs = omega (arith, inv.long, inv.few) in
-      let l : j < length (drop 1 xs) = rw (length-drop 1 xs) (omega arith) in
-      let one : 1 + j ≡ j + 1 = omega arith in
-      let next : get_or vs (j + 1) e ≡ get_or (drop 1 xs) j e =
-      ap (λ v. get_or v (j + 1) e) inv.rest ∙ filled_later (drop 1 xs) xs j (j + 1) e (omega arith) (omega arith) ∙ sym (rw one at (get_or-drop 1 xs j e)) in
-      record { long = inv.long; few = inv.few; at = h; rest = rw (next, inv.rest) (fill_step (drop 1 xs) xs j e l (omega arith)) }
-
-  pub shifted : (d : A) → n ≤ j + 1 → set vs j d ≡ drop 1 (take n xs) ++ (d ∷ drop n xs)
-  shifted d h =
-      let e : n ≡ suc j = omega (arith, inv.at) in
-      let l : j ≤ length (drop 1 xs) = rw (length-drop 1 xs) (omega (arith, within)) in
-      rw (inv.rest, drop-cons xs j d (omega (arith, within)), e, ← take_rest j xs)
-      (set_at (take j (drop 1 xs)) (get_or xs j d) (drop (suc j) xs) d j (length-take-le j (drop 1 xs) l))
-
-  pub left : length (drop 1 (take n xs)) ≡ n - 1
-  left = simp (length-drop, length-take) (omega (arith, inv.long, inv.few))
+-- the first n of a list moved down by one, with d in the place of the last
+moved_down : {A : Type 0} (xs : List A) (n m : ℕ) (d : A) → n ≡ suc m → n ≤ length xs → set (copy_within xs 1 n 0) m d ≡ drop 1 (take n xs) ++ (d ∷ drop n xs)
+moved_down xs n m d e h =
+    let k : n - 1 ≡ m = omega arith in
+    let l : m ≤ length (drop 1 xs) = rw (length-drop 1 xs) (omega arith) in
+    rw (k, e, zero-add m, drop-cons xs m d (omega arith), ← take_rest m xs)
+    (set_at (take m (drop 1 xs)) (get_or xs m d) (drop (suc m) xs) d m (length-take-le m (drop 1 xs) l))
 
 -- a count past the table's end shows no more than the number of entries shown
 take_own : {A : Type 0} (n : ℕ) (xs : List A) → take (length (take n xs)) xs ≡ take n xs
@@ -95,49 +74,44 @@ take_own zero xs = refl
 take_own (suc n) [] = refl
 take_own (suc n) (x ∷ xs) = ap (λ l. x ∷ l) (take_own n xs)
 
-none_first : {A : Type 0} (l : List A) → length l ≡ 0 → l ≡ drop 1 l
-none_first [] e = refl
-none_first (x ∷ l) e = absurd (omega arith)
-
-module _ (t : Cache) (n : ℕ) (a : n ≡ length (view_cache t)) where
-  pub first_none : n ≡ 0 → view_cache t ≡ drop 1 (view_cache t)
-  first_none h = none_first (view_cache t) (sym a ∙ h)
-
-  pub first_start : length t.entries ≡ 16 → (n ≡ 0 → ⊥) → Shifting t.entries 16 n t.entries 0
+module _ (t : Cache) (n : ℕ) (l : length t.entries ≡ 16) (a : n ≡ length (view_cache t)) where
+  pub few : n ≤ length t.entries
   unfolding view_cache
-  first_start l m =
-      let q : n ≤ 16 = omega (arith, a, counted-length view_cached t.count t.entries 16 l) in
-      record { long = l; few = q; at = omega arith; rest = refl }
+  few = omega (arith, counted-length view_cached t.count t.entries 16 l)
 
-  module _ (d : Cached) (vs : List Cached) (j : ℕ) (inv : Shifting t.entries 16 n vs j) (h : n ≤ j + 1) where
+  module _ (d : Cached) (vs : List Cached) (e : vs ≡ copy_within t.entries 1 n 0) (h : 0 < n) where
+    moved : set vs (n - 1) d ≡ drop 1 (take n t.entries) ++ (d ∷ drop n t.entries)
+    moved = rw e (moved_down t.entries n (n - 1) d (omega arith) few)
+
+    left : length (drop 1 (take n t.entries)) ≡ n - 1
+    left = let f = few in simp (length-drop, length-take) (omega arith)
+
     shown : counted view_cached n t.entries ≡ view_cache t
     unfolding view_cache counted
     shown = rw a (take_own t.count (map view_cached t.entries))
 
-    pub first_gone : view_cache (record { count = n - 1; entries = set vs j d }) ≡ drop 1 (view_cache t)
+    pub first_gone : view_cache (record { count = n - 1; entries = set vs (n - 1) d }) ≡ drop 1 (view_cache t)
     unfolding view_cache counted
     first_gone =
-        let e : take (n - 1) (set vs j d) ≡ drop 1 (take n t.entries) = rw (shifted inv d h) (take_at (drop 1 (take n t.entries)) (d ∷ drop n t.entries) (n - 1) (left inv)) in
-        take-map view_cached (n - 1) (set vs j d)
+        let e : take (n - 1) (set vs (n - 1) d) ≡ drop 1 (take n t.entries) = rw moved (take_at (drop 1 (take n t.entries)) (d ∷ drop n t.entries) (n - 1) left) in
+        take-map view_cached (n - 1) (set vs (n - 1) d)
         ∙ ap (map view_cached) e
         ∙ map-rest view_cached (take n t.entries)
         ∙ ap (drop 1) (sym (take-map view_cached n t.entries) ∙ shown)
 
-    pub first_form : view_cached d ≡ no_cached → cached_form d ≡ true → cache_form t ≡ true → cache_form (record { count = n - 1; entries = set vs j d }) ≡ true
+    pub first_form : view_cached d ≡ no_cached → cached_form d ≡ true → cache_form t ≡ true → cache_form (record { count = n - 1; entries = set vs (n - 1) d }) ≡ true
     unfolding cache_form view_cache
     first_form b b' e =
         let f = form_parts 16 cached_form is_blank_cached t.count t.entries e in
-        let q : n ≡ t.count = omega (arith, a, f.within, counted-length view_cached t.count t.entries 16 inv.long) in
+        let q : n ≡ t.count = omega (arith, f.within, counted-length view_cached t.count t.entries 16 l) in
         let w = f.within in
-        let l = inv.long in
-        let m = inv.at in
-        rw (shifted inv d h)
+        rw moved
         (parts_form 16 cached_form is_blank_cached (n - 1) (drop 1 (take n t.entries) ++ (d ∷ drop n t.entries))
         (record {
           long = simp (length-append, length-drop, length-take) (omega arith);
           within = omega arith;
-          in_use = rw (take_at (drop 1 (take n t.entries)) (d ∷ drop n t.entries) (n - 1) (left inv)) (all_drop cached_form 1 (take n t.entries) (rw q f.in_use));
-          rest = rw (drop_at (drop 1 (take n t.entries)) (d ∷ drop n t.entries) (n - 1) (left inv)) (both (is_blank_cached d) (all is_blank_cached (drop n t.entries)) (blank_cached d b b') (rw q f.rest));
+          in_use = rw (take_at (drop 1 (take n t.entries)) (d ∷ drop n t.entries) (n - 1) left) (all_drop cached_form 1 (take n t.entries) (rw q f.in_use));
+          rest = rw (drop_at (drop 1 (take n t.entries)) (d ∷ drop n t.entries) (n - 1) left) (both (is_blank_cached d) (all is_blank_cached (drop n t.entries)) (blank_cached d b b') (rw q f.rest));
         }))
 
 -- ── without the documents of no set ──
@@ -191,13 +165,3 @@ module _ (c : Cached) (keys : Keys) (k : Key) (e : view_key k ≡ view_keys keys
   pub field_of : (q : Place) {r : S.Field} → r ≡ D.field_at (view_place q) (view_key k) (view_cached c).fields → r ≡ D.field_at (view_place q) (view_keys keys (view_cached c).key) (view_cached c).fields
   unfolding view_cached
   field_of q h = h ∙ rw e
-
-  -- does it stay
-  module _ (set : ℕ) (t : Bool) (a : t ≡ in_documents (docs set) (view_key k)) where
-    pub leaves : t ≡ true → stays (docs set) (view_keys keys) (view_cached c) ≡ false
-    unfolding stays view_cached
-    leaves h = rw (← e, ← a, h)
-
-    pub remains : t ≡ false → stays (docs set) (view_keys keys) (view_cached c) ≡ true
-    unfolding stays view_cached
-    remains h = rw (← e, ← a, h)

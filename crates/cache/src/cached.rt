@@ -25,27 +25,20 @@ impl Cached {
         ensures shows { view_cached result ≡ record { key = key; fields = [] } }
         ensures form { cached_form result ≡ true }
     {
-        let f = Field::empty();
         Self {
             key,
             count: 0,
-            fields: [f; Key::LIMIT],
+            fields: [Field::empty(); Key::LIMIT],
         }
     }
 
     // One more field, if there is room.
-    pub fn push(self, f: Field) -> Self
+    pub fn push(mut self, f: Field) -> Self
         ensures shows { view_cached result ≡ with_field (view_field f) (view_cached self) }
         ensures form { field_form f ≡ true → cached_form self ≡ true → cached_form result ≡ true }
     {
-        let at = self.count as usize;
-        if Key::LIMIT <= at {
-            return self;
-        }
-        let mut t = self;
-        t.fields[at] = f;
-        t.count = self.count + 1;
-        t
+        lists::push(&mut self.fields, &mut self.count, f);
+        self
     }
 
     // The field of a place, where the key's places are those of `key`.
@@ -53,20 +46,10 @@ impl Cached {
         ensures shows { view_field result ≡ field_at (view_place q) (view_key key) (view_cached self).fields }
         ensures form { cached_form self ≡ true → field_form result ≡ true }
     {
-        let mut i: usize = 0;
-        while i < Key::LIMIT {
-            if key.count as usize <= i {
-                return Field::empty();
-            }
-            if self.count as usize <= i {
-                return Field::empty();
-            }
-            if q.is(key.places[i]) {
-                return self.fields[i];
-            }
-            i += 1;
-        }
-        Field::empty()
+        let places = key.shown();
+        let fields = lists::used(&self.fields, self.count);
+        let shown = places.iter().zip(fields).find(|(p, _)| q.is(**p));
+        shown.map_or(Field::empty(), |(_, f)| *f)
     }
 
     // After changes, where the key's places are those of `key`.
@@ -75,14 +58,9 @@ impl Cached {
         ensures form { cached_form self ≡ true → cached_form result ≡ true }
     {
         let mut t = Cached::of(self.key);
-        let mut i: usize = 0;
-        while i < Key::LIMIT {
-            if self.count as usize <= i {
-                return t;
-            }
+        for (i, f) in lists::used(&self.fields, self.count).iter().enumerate() {
             let q = key.place(i as u8);
-            t = t.push(cs.run(q, self.fields[i]));
-            i += 1;
+            t = t.push(cs.run(q, *f));
         }
         t
     }
@@ -94,10 +72,8 @@ impl Cached {
         ensures form { cached_form self ≡ true → cached_form result ≡ true }
     {
         let key = keys.key(self.key);
-        if self.count <= key.count {
-            if !cs.touches_any(key) {
-                return self;
-            }
+        if self.count <= key.count && !cs.touches_any(key) {
+            return self;
         }
         self.after(key, cs)
     }

@@ -37,95 +37,53 @@ impl Cache {
         ensures shows { view_cache result ≡ [] }
         ensures form { cache_form result ≡ true }
     {
-        let c = Cached::of(0);
         Self {
             count: 0,
-            entries: [c; Self::LIMIT],
+            entries: [Cached::of(0); Self::LIMIT],
         }
     }
 
     pub fn len(self) -> u8
         ensures { result ≡ length (view_cache self) }
     {
-        let n = self.count;
-        if Self::LIMIT <= n as usize {
-            return Self::LIMIT as u8;
-        }
-        n
+        self.count.min(Self::LIMIT as u8)
     }
 
     // Is the key of a number cached?
     pub fn has(self, k: u8) -> bool
         ensures { result ≡ is_cached k (view_cache self) }
     {
-        let mut i: usize = 0;
-        while i < Self::LIMIT {
-            if self.count as usize <= i {
-                return false;
-            }
-            if k == self.entries[i].key {
-                return true;
-            }
-            i += 1;
-        }
-        false
+        let used = lists::used(&self.entries, self.count);
+        used.iter().any(|c| k == c.key)
     }
 
     // One more, if there is room.
-    pub fn push(self, c: Cached) -> Self
+    pub fn push(mut self, c: Cached) -> Self
         ensures shows { view_cache result ≡ pushed cache_limit (view_cache self) (view_cached c) }
         ensures form { cached_form c ≡ true → cache_form self ≡ true → cache_form result ≡ true }
     {
-        let at = self.count as usize;
-        if Self::LIMIT <= at {
-            return self;
-        }
-        let mut t = self;
-        t.entries[at] = c;
-        t.count = self.count + 1;
-        t
+        lists::push(&mut self.entries, &mut self.count, c);
+        self
     }
 
     // The cached keys without a place in a document of the set.
-    pub fn without(self, keys: Keys, set: u64) -> Self
+    pub fn without(mut self, keys: Keys, set: u64) -> Self
         ensures shows { view_cache result ≡ keep (stays (docs set) (view_keys keys)) (view_cache self) }
         ensures form { cache_form self ≡ true → cache_form result ≡ true }
     {
-        if set == 0 {
-            return self;
+        if set != 0 {
+            let stays = |c: &Cached| !keys.key(c.key).in_documents(set);
+            lists::keep(&mut self.entries, &mut self.count, Cached::of(0), stays);
         }
-        let n = self.len() as usize;
-        let mut kept = Cache::empty();
-        let mut k: usize = 0;
-        let mut i: usize = 0;
-        while i < n {
-            let key = keys.key(self.entries[i].key);
-            if !key.in_documents(set) {
-                kept.entries[k] = self.entries[i];
-                k += 1;
-            }
-            i += 1;
-        }
-        kept.count = k as u8;
-        kept
+        self
     }
 
     // Does a cached key show a place?
     pub fn shows(self, keys: Keys, q: Place) -> bool
         ensures { result ≡ any (shows_it (view_keys keys) (view_place q)) (view_cache self) }
     {
-        let mut i: usize = 0;
-        while i < Self::LIMIT {
-            if self.count as usize <= i {
-                return false;
-            }
-            let key = keys.key(self.entries[i].key);
-            if key.has(q) {
-                return true;
-            }
-            i += 1;
-        }
-        false
+        let used = lists::used(&self.entries, self.count);
+        used.iter().any(|c| keys.key(c.key).has(q))
     }
 
     // The place's field in the first cached key that shows it.
@@ -133,55 +91,39 @@ impl Cache {
         ensures shows { view_field result ≡ cached_field (view_keys keys) (view_place q) (view_cache self) }
         ensures form { cache_form self ≡ true → field_form result ≡ true }
     {
-        let mut i: usize = 0;
-        while i < Self::LIMIT {
-            if self.count as usize <= i {
-                return Field::empty();
+        for c in lists::used(&self.entries, self.count) {
+            let key = keys.key(c.key);
+            if key.has(q) {
+                return c.field(key, q);
             }
-            let k = keys.key(self.entries[i].key);
-            if k.has(q) {
-                return self.entries[i].field(k, q);
-            }
-            i += 1;
         }
         Field::empty()
     }
 
     // All but the first: the others move down, and the entry of the last is emptied.
-    pub fn without_first(self) -> Self
+    pub fn without_first(mut self) -> Self
         ensures shows { view_cache result ≡ drop 1 (view_cache self) }
         ensures form { cache_form self ≡ true → cache_form result ≡ true }
     {
         let n = self.len();
-        if n == 0 {
-            return self;
+        if n > 0 {
+            let end = n as usize;
+            self.entries.copy_within(1..end, 0);
+            self.entries[end - 1] = Cached::of(0);
+            self.count = n - 1;
         }
-        let end = n as usize;
-        let none = Cached::of(0);
-        let mut t = self;
-        let mut j: usize = 0;
-        while j + 1 < end {
-            t.entries[j] = t.entries[j + 1];
-            j += 1;
-        }
-        t.entries[j] = none;
-        t.count = n - 1;
-        t
+        self
     }
 
     // All brought up to date with changes.
-    pub fn up_to_date(self, keys: Keys, cs: Changes) -> Self
+    pub fn up_to_date(mut self, keys: Keys, cs: Changes) -> Self
         ensures shows { view_cache result ≡ map (λ c. after_changes (view_changes cs) (view_keys keys c.key) c) (view_cache self) }
         ensures form { cache_form self ≡ true → cache_form result ≡ true }
     {
         let n = self.len() as usize;
-        let mut t = self;
-        let mut i: usize = 0;
-        while i < n {
-            let c = t.entries[i].up_to_date(keys, cs);
-            t.entries[i] = c;
-            i += 1;
+        for i in 0..n {
+            self.entries[i] = self.entries[i].up_to_date(keys, cs);
         }
-        t
+        self
     }
 }

@@ -1,13 +1,19 @@
 -- A cached key through its view: one law for each way out of a method.
-use Prim.Native.Nat.{ℕ, ◌+◌, ◌<◌, ◌≤◌}
+use Prim.Native.Nat.{ℕ, ◌≤◌}
 use native.Mathlib.Omega.{arith}
-use mathlib.Core.Path.{◌≡◌, refl, sym, ◌∙◌, ap}
-use mathlib.Core.Bool.{Bool, true, false, cond}
-use mathlib.Core.Logic.{inl, inr}
-use mathlib.Core.List.{List, [], ◌∷◌}
-use lib.ListN.{length, get_or, set, drop}
+use mathlib.Core.Path.{◌≡◌, sym, ◌∙◌, ap}
+use mathlib.Core.Bool.{Bool, true, false}
+use mathlib.Core.List.{List, [], ◌∷◌, map}
+use lib.ListN.{length, get_or, take}
 use lib.Dec.{eqb}
 use borrow.Author.Tests.{eq-eqb}
+use Rattle.std.specs.declared.option.Option.{Option}
+use Rattle.std.specs.declared.option.Option.TheVariants.{Some, None}
+use Rattle.std.specs.Option.{MatchOption, option_map}
+use Rattle.std.specs.List.{find, zip}
+use Rattle.rules.specs.Lists.{all}
+use Rattle.rules.proofs.Tests.{all_head, all_tail}
+use Rattle.rules.proofs.Laws.{by_case}
 use Rattle.rules.specs.Limits.{place_limit}
 use Rattle.rules.specs.Lists.{pushed}
 use Rattle.rules.specs.Values as S
@@ -28,9 +34,10 @@ use Rattle.changes.specs.View.{view_changes}
 use Rattle.changes.specs.declared.Changes.{Changes}
 use Rattle.lists.specs.Find.{map_from}
 use Rattle.lists.specs.Table.{counted}
-use Rattle.lists.proofs.Views.{counted_next, counted-gone, counted-length, push_room, push_full, map_same}
+use Rattle.lists.proofs.Views.{counted-length, map_same}
+use Rattle.lists.proofs.Iterators.{counted_taken}
 use Rattle.lists.proofs.Indexed.{none_index}
-use Rattle.lists.proofs.Forms.{form_parts, form_empty, form_push, used_at}
+use Rattle.lists.proofs.Forms.{form_parts, form_empty}
 use Rattle.cache.specs.cached.View.{no_cached, with_field, view_cached, after_changes}
 use Rattle.cache.specs.cached.Form.{is_blank_field, cached_form, is_blank_cached}
 use Rattle.cache.specs.declared.cached.Cached.{Cached}
@@ -79,67 +86,48 @@ untouched_is c k cs l m h a e =
     (λ j f o n. run_untouched cs (get_or (view_key k) j no_place) f
     (none_index (C.touches cs) (view_key k) j no_place (omega (arith, counted-length view_field c.count c.fields 4 l, counted-length view_place k.count k.places 4 m)) (sym a ∙ e))))
 
-module _ (c : Cached) (l : length c.fields ≡ 4) (f : Field) where
-  pub field_room : c.count < 4 → view_cached (record { key = c.key; count = c.count + 1; fields = set c.fields c.count f }) ≡ with_field (view_field f) (view_cached c)
-  unfolding view_cached with_field
-  field_room h = ap (λ (x : List S.Field). record { key = c.key; fields = x }) (push_room view_field c.count c.fields 4 f l h refl)
-
-  pub field_full : 4 ≤ c.count → view_cached c ≡ with_field (view_field f) (view_cached c)
-  unfolding view_cached with_field
-  field_full h = ap (λ (x : List S.Field). record { key = c.key; fields = x }) (push_full view_field c.count c.fields 4 (view_field f) l h)
-
-pub field_pushed : (c : Cached) (f : Field) → c.count < 4 → field_form f ≡ true → cached_form c ≡ true → cached_form (record { key = c.key; count = c.count + 1; fields = set c.fields c.count f }) ≡ true
-unfolding cached_form
-field_pushed c f h g k = form_push 4 field_form is_blank_field c.count c.fields f h g k
-
--- ── the field of a place: what is still to look at is `drop i` of the places and of the fields ──
-pub record Reading (c : Cached) (k : Key) (q : Place) (i : ℕ) : Type 0 where
-  pub places : length k.places ≡ 4
-  pub fields : length c.fields ≡ 4
-  pub at : i ≤ 4
-  pub rest : D.field_at (view_place q) (view_key k) (view_cached c).fields ≡ D.field_at (view_place q) (drop i (view_key k)) (drop i (view_cached c).fields)
-
-pub read_start : (c : Cached) (k : Key) (q : Place) → length k.places ≡ 4 → length c.fields ≡ 4 → Reading c k q 0
-read_start c k q l m = record { places = l; fields = m; at = omega arith; rest = refl }
-
--- no place left, or no field
-no_places : (q : S.Place) (ps : List S.Place) (fs : List S.Field) → ps ≡ [] → D.field_at q ps fs ≡ S.absent
-no_places q ps fs e = rw e
-
-no_fields : (q : S.Place) (ps : List S.Place) (fs : List S.Field) → fs ≡ [] → D.field_at q ps fs ≡ S.absent
-no_fields q [] fs e = refl
-no_fields q (p ∷ ps) fs e = rw e
-
 -- a field, for what lies past a list's end
 pub no_field : Field
 no_field = record { kind = 0; count = 0; values = [] }
 
-module _ {c : Cached} {k : Key} {q : Place} {i : ℕ} (inv : Reading c k q i) where
-  module _ (d : Place) (t : Bool) (h : i < 4) (m : i < k.count) (n : i < c.count) (a : t ≡ S.same_place (view_place q) (view_place (get_or k.places i d))) where
-    now : (f : Field) → D.field_at (view_place q) (view_key k) (view_cached c).fields ≡ cond t (view_field (get_or c.fields i f)) (D.field_at (view_place q) (drop (i + 1) (view_key k)) (drop (i + 1) (view_cached c).fields))
-    unfolding view_key view_cached
-    now f =
-        inv.rest
-        ∙ rw (counted_next view_place k.count k.places d i m (omega (arith, inv.places)), counted_next view_field c.count c.fields f i n (omega (arith, inv.fields)), a)
+-- ── the field of a place: of the pairs of a place and a field, the field of the first pair of the place, or e ──
+unfoldable picked : Field → Option (Place × Field) → Field
+picked e None = e
+picked e (Some p) = p.1
 
-    pub read_hit : (f : Field) → t ≡ true → view_field (get_or c.fields i f) ≡ D.field_at (view_place q) (view_key k) (view_cached c).fields
-    read_hit f e = sym (now f ∙ rw e)
+abbrev pub found : S.Place → List Place → List Field → Option (Place × Field)
+found q ps fs = find (λ p. S.same_place q (view_place p.0)) (zip ps fs)
 
-    pub read_next : t ≡ false → Reading c k q (i + 1)
-    read_next e = record { places = inv.places; fields = inv.fields; at = omega arith; rest = now no_field ∙ rw e }
+module _ (q : S.Place) (e : Field) where
+  picked_shows : (ps : List Place) (fs : List Field) → view_field e ≡ S.absent → view_field (picked e (found q ps fs)) ≡ D.field_at q (map view_place ps) (map view_field fs)
+  unfolding picked
+  picked_shows [] fs a = a
+  picked_shows (p ∷ ps) [] a = a
+  picked_shows (p ∷ ps) (f ∷ fs) a = by_case (S.same_place q (view_place p)) (λ t. rw t) (λ t. rw t (picked_shows ps fs a))
 
-  pub read_no_place : {r : S.Field} → k.count ≤ i → r ≡ S.absent → r ≡ D.field_at (view_place q) (view_key k) (view_cached c).fields
-  unfolding view_key
-  read_no_place h e = e ∙ sym (inv.rest ∙ no_places _ _ _ (counted-gone view_place k.count k.places i 4 inv.places (inl h)))
+  picked_form : (ps : List Place) (fs : List Field) → field_form e ≡ true → all field_form fs ≡ true → field_form (picked e (found q ps fs)) ≡ true
+  unfolding picked
+  picked_form [] fs a h = a
+  picked_form (p ∷ ps) [] a h = a
+  picked_form (p ∷ ps) (f ∷ fs) a h =
+      by_case (S.same_place q (view_place p))
+      (λ t. rw t (all_head field_form f fs h))
+      (λ t. rw t (picked_form ps fs a (all_tail field_form f fs h)))
 
-  pub read_no_field : {r : S.Field} → c.count ≤ i → r ≡ S.absent → r ≡ D.field_at (view_place q) (view_key k) (view_cached c).fields
+-- r is what `find` answered, v x the pair that x stands for, and o what `map_or` made of r
+is_picked : {X : Type 0} (e : Field) (v : X → Place × Field) (r : Option X) {o : Field} {Q : X → Type 0} → MatchOption r (o ≡ e) Q → ((x : X) → Q x → o ≡ (v x).1) → o ≡ picked e (option_map v r)
+unfolding picked
+is_picked e v None m h = m
+is_picked e v (Some x) m h = h x m
+
+module _ {X : Type 0} (v : X → Place × Field) (r : Option X) (c : Cached) (q : Place) (ps : List Place) {o : Field} (e : Field) {Q : X → Type 0}
+    (g : option_map v r ≡ found (view_place q) ps (take c.count c.fields)) (m : MatchOption r (o ≡ e) Q) (h : (x : X) → Q x → o ≡ (v x).1) where
+  pub field_shows : (k : Key) → map view_place ps ≡ view_key k → view_field e ≡ S.absent → view_field o ≡ D.field_at (view_place q) (view_key k) (view_cached c).fields
   unfolding view_cached
-  read_no_field h e = e ∙ sym (inv.rest ∙ no_fields _ (drop i (view_key k)) _ (counted-gone view_field c.count c.fields i 4 inv.fields (inl h)))
+  field_shows k s a = rw (is_picked e v r m h, g, ← s, counted_taken view_field c.count c.fields) (picked_shows (view_place q) e ps (take c.count c.fields) a)
 
-  pub read_past : {r : S.Field} → 4 ≤ i → r ≡ S.absent → r ≡ D.field_at (view_place q) (view_key k) (view_cached c).fields
-  unfolding view_key
-  read_past h e = e ∙ sym (inv.rest ∙ no_places _ _ _ (counted-gone view_place k.count k.places i 4 inv.places (inr h)))
-
-pub field_form_lem : (c : Cached) (i : ℕ) (d : Field) → i < c.count → cached_form c ≡ true → field_form (get_or c.fields i d) ≡ true
-unfolding cached_form
-field_form_lem c i d h e = used_at 4 field_form is_blank_field c.count c.fields i d h e
+  pub field_in_form : field_form e ≡ true → cached_form c ≡ true → field_form o ≡ true
+  unfolding cached_form
+  field_in_form a f =
+      rw (is_picked e v r m h, g)
+      (picked_form (view_place q) e ps (take c.count c.fields) a (form_parts 4 field_form is_blank_field c.count c.fields f).in_use)

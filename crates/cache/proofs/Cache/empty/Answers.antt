@@ -11,4 +11,4 @@ returns-clause-shows c = refl
 
 pub returns-clause-form : goal.returns-clause-form
 unfolding view_cache counted
-returns-clause-form c = cache_empty _ c.of-c.ensures.shows c.of-c.ensures.form
+returns-clause-form c = cache_empty _ c.of.ensures.shows c.of.ensures.form

@@ -8,7 +8,7 @@ pub loop-i-init : goal.loop-i-init
 loop-i-init c = search (date_start, length_mapped, rules)
 
 pub loop-i-preserved : goal.loop-i-preserved
-loop-i-preserved c = date_next c.loop-i.invariant _ _ (search rules) c.up_to_date-c.ensures.shows c.up_to_date-c.ensures.form
+loop-i-preserved c = date_next c.loop-i.invariant _ _ (search rules) c.up_to_date.ensures.shows c.up_to_date.ensures.form
 
 pub returns-clause-shows : goal.returns-clause-shows
 returns-clause-shows c = date_end c.loop-i.invariant (search rules)

@@ -11,4 +11,4 @@ returns-clause-shows c = refl
 
 pub returns-clause-form : goal.returns-clause-form
 unfolding view_cached counted
-returns-clause-form c = of_form _ _ c.empty-f.ensures.shows c.empty-f.ensures.form
+returns-clause-form c = of_form _ _ c.empty.ensures.shows c.empty.ensures.form

@@ -1,17 +1,16 @@
 -- `Cached::push` meets its contract.
-use Rattle.lists.proofs.Loops.{length_mapped}
-use Rattle.cache.proofs.cached.CachedLaws.{field_room, field_full, field_pushed}
 use borrow.Author.Rules.{rules}
+use Rattle.lists.proofs.Loops.{length_mapped}
+use Rattle.lists.proofs.Iterators.{push_shows, push_form}
+use Rattle.field.specs.View.{view_field}
+use Rattle.cache.specs.cached.View.{view_cached, with_field}
+use Rattle.cache.specs.cached.Form.{cached_form}
 use Rattle.cache.proofs.cached.Cached.push.Goals as goal
 
-pub returns-then-at-ge-LIMIT-clause-shows : goal.returns-then-at-ge-LIMIT-clause-shows
-returns-then-at-ge-LIMIT-clause-shows c = search (field_full, length_mapped, rules)
-
-pub returns-then-at-ge-LIMIT-clause-form : goal.returns-then-at-ge-LIMIT-clause-form
-returns-then-at-ge-LIMIT-clause-form c = λ u f. f
-
 pub returns-clause-shows : goal.returns-clause-shows
-returns-clause-shows c = search (field_room, length_mapped, rules)
+unfolding view_cached with_field
+returns-clause-shows c = λ i. record { key = c.args.self.key; fields = push_shows 4 c.args.f (search length_mapped) c.push.ensures.item c.push.ensures.one_more c.push.ensures.full c.push.ensures.no_more view_field i }
 
 pub returns-clause-form : goal.returns-clause-form
-returns-clause-form c = search (field_pushed, rules)
+unfolding cached_form
+returns-clause-form c = search (push_form, length_mapped, rules)
