@@ -1,4 +1,3 @@
 -- Laws of lines.
 pub mod CallLaws
 pub mod NumberLaws
-pub mod SaidLaws

@@ -1,10 +1,9 @@
--- The invariant and the measure of the loop of `natural`.
-use Prim.Native.Nat.{◌-◌}
-use Rattle.line_parse.proofs.columns.ColumnLaws.{Reading}
+-- The invariant of the loop of `natural`.
+use Rattle.std.proofs.Common.{◌≡◌, ◌<◌, ◌^◌, drop}
+use Rattle.line_format.specs.Bytes.{base}
+use Rattle.line_format.specs.Columns.{natural}
+use Rattle.line_parse.proofs.columns.ColumnLaws.{after}
 use Rattle.line_parse.proofs.columns.natural.Given as goal
 
-abbrev pub invariant-loop-i : goal.invariant-loop-i
-invariant-loop-i l = Reading l.columns l.from l.i l.value
-
-abbrev pub decreases-loop-i : goal.decreases-loop-i
-decreases-loop-i l = l.end - l.i
+abbrev pub invariant-loop-b : goal.invariant-loop-b
+invariant-loop-b l = record { rest : natural l.digits ≡ after l.value (drop l.b-index l.digits); small : l.value < base ^ l.b-index }

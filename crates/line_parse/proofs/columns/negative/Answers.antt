@@ -1,16 +1,13 @@
 -- `negative` meets its contract.
-use borrow.Author.Rules.{rules}
-use Rattle.line_parse.proofs.columns.ColumnLaws.{negative-none, negative-zero, minus_fits, negative_is}
+use Rattle.std.proofs.Common.{rules}
+use Rattle.line_parse.proofs.columns.ColumnLaws.{plain_fits, minus_fits, negative_is}
 use Rattle.line_parse.proofs.columns.negative.Goals as goal
 
-pub returns-then-n-eq-NONE : goal.returns-then-n-eq-NONE
-returns-then-n-eq-NONE c = search (negative-none, rules)
+pub overflow_cast-n : goal.overflow_cast-n
+overflow_cast-n c = search (plain_fits c.args.digits.now, rules)
 
-pub returns-then-n-eq0 : goal.returns-then-n-eq0
-returns-then-n-eq0 c = search (negative-zero, rules)
-
-pub overflow_sub-result : goal.overflow_sub-result
-overflow_sub-result c = search (minus_fits, rules)
+pub overflow_sub-n : goal.overflow_sub-n
+overflow_sub-n c = search (minus_fits, rules)
 
 pub returns : goal.returns
-returns c = search (negative_is, c.if-n-eq-NONE.false, c.if-n-eq0.false, rules)
+returns c = search (negative_is, rules)

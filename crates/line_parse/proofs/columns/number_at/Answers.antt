@@ -1,10 +1,7 @@
 -- `number_at` meets its contract.
-use borrow.Author.Rules.{rules}
-use Rattle.line_parse.proofs.columns.ColumnLaws.{past_none, columns_integer}
+use Rattle.std.proofs.Common.{rules}
+use Rattle.line_parse.proofs.columns.ColumnLaws.{past_none}
 use Rattle.line_parse.proofs.columns.number_at.Goals as goal
 
-pub returns-then-len-at : goal.returns-then-len-at
-returns-then-len-at c = search (past_none, rules)
-
-pub returns : goal.returns
-returns c = search (columns_integer, rules)
+pub returns-in_err-rest : goal.returns-in_err-rest
+returns-in_err-rest c = search (past_none, rules)

@@ -1,10 +1,10 @@
 -- `plain` meets its contract.
-use borrow.Author.Rules.{rules}
-use Rattle.line_parse.proofs.columns.ColumnLaws.{plain-none, plain_is}
+use Rattle.std.proofs.Common.{rules}
+use Rattle.line_parse.proofs.columns.ColumnLaws.{plain_fits, plain_is}
 use Rattle.line_parse.proofs.columns.plain.Goals as goal
 
-pub returns-then-n-eq-NONE : goal.returns-then-n-eq-NONE
-returns-then-n-eq-NONE c = search (plain-none, rules)
+pub overflow_cast-result : goal.overflow_cast-result
+overflow_cast-result c = search (plain_fits c.args.digits.now, rules)
 
 pub returns : goal.returns
-returns c = search (plain_is, c.if-n-eq-NONE.false, rules)
+returns c = search (plain_is, rules)
