@@ -1,40 +1,51 @@
--- The end of a line in a piece: the loop that looks for it, and how it cuts the piece.
+-- The end of a line in a piece: where it is found, and how it cuts the piece.
 use Prim.Native.Nat.{◌+◌, ◌-◌, ◌<◌, ◌≤◌, suc, ℕ}
 use native.Mathlib.Nat.{suc-add}
 use native.Mathlib.Omega.{arith}
 use mathlib.Core.Path.{◌≡◌, ◌∙◌, ap, refl, sym}
-use mathlib.Core.Bool.{false}
+use mathlib.Core.Bool.{Bool, false}
 use mathlib.Core.List.{List, [], ◌++◌, ◌∷◌}
-use lib.ListN.{drop, drop_of_length-le, get_or, length, length-drop, take}
+use lib.ListN.{drop, drop_of_length-le, length, length-drop, take}
 use lib.Seq.{drop-drop, take_all, take-nil}
 use lib.Dec.{eqb, ltb}
-use borrow.Author.Tests.{eq-eqb, eqb-true, ltb-false, ltb-true, ne_eqb}
+use borrow.Author.Tests.{eqb-true, ltb-false, ltb-true}
+use Rattle.std.specs.Prelude as P
+use Rattle.std.specs.Prelude.{Some, None, position, unwrap_or, option_map}
+use Rattle.std.specs.List.{position_from}
+use Rattle.std.proofs.lemmas.Iterator.Adapters.{position_from-zero}
 use Rattle.rules.proofs.Laws.{by_case}
 use Rattle.lists.specs.Find.{first_at}
-use Rattle.lists.proofs.Loops.{drop_next, first_hit, first_miss}
 use Rattle.line_format.specs.Bytes.{newline}
 use Rattle.line_format.specs.Feeding.{complete, has_end, unended}
 use Rattle.line_format.proofs.Cutting.{more_complete, more_unended}
 use Rattle.line_pending.specs.View.{between, end_from}
 
--- ── the loop: what is looked for is still to come ──
-abbrev pub ToCome : ℕ → List ℕ → ℕ → Type 0
-ToCome from l i = end_from from l ≡ first_at (λ b. eqb b newline) (length l) i (drop i l)
-
-pub end_start : (from : ℕ) (l : List ℕ) → ToCome from l from
-unfolding end_from
-end_start from l = refl
-
-module _ (from : ℕ) (l : List ℕ) (i : ℕ) (inv : ToCome from l i) where
-  pub end_hit : i < length l → get_or l i 0 ≡ newline → i ≡ end_from from l
-  end_hit h e = sym (inv ∙ first_hit (λ b. eqb b newline) (length l) (drop_next 0 l i h) (eq-eqb (get_or l i 0) newline e))
-
-  pub end_next : i < length l → (get_or l i 0 ≡ newline → ⊥) → ToCome from l (i + 1)
-  end_next h e = inv ∙ first_miss (λ b. eqb b newline) (length l) i (drop_next 0 l i h) (ne_eqb (get_or l i 0) newline e)
-
-  pub end_past : length l ≤ i → length l ≡ end_from from l
+-- ── the first that `position` finds ──
+module _ (p : ℕ → Bool) where
+  first_from : (none i : ℕ) (l : List ℕ) → first_at p none i l ≡ unwrap_or (position_from p i l) none
   unfolding first_at
-  end_past h = sym (inv ∙ rw (drop_of_length-le l h))
+  first_from none i [] = refl
+  first_from none i (b ∷ l) = by_case (p b) (λ t. rw t) (λ t. rw t (first_from none (i + 1) l))
+
+  position_on : (i k : ℕ) (l : List ℕ) → position_from p (i + k) l ≡ option_map (λ n. i + n) (position_from p k l)
+  position_on i k [] = refl
+  position_on i k (b ∷ l) = let e : i + k + 1 ≡ i + (k + 1) = omega arith in by_case (p b) (λ t. rw t) (λ t. rw (t, e) (position_on i (k + 1) l))
+
+module _ (from : ℕ) (l : List ℕ) {rest : List ℕ} {r : P.Option ℕ} where
+  end_is : r ≡ position (λ b. eqb b newline) rest → rest ≡ drop from l → end_from from l ≡ unwrap_or (option_map (λ n. from + n) r) (length l)
+  unfolding end_from
+  end_is e f =
+      let p = λ (b : ℕ). eqb b newline in
+      let z : from ≡ from + 0 = omega arith in
+      rw (← f)
+      (first_from p (length l) from rest
+      ∙ ap (λ o. unwrap_or o (length l)) (ap (λ i. position_from p i rest) z ∙ position_on p from 0 rest ∙ ap (option_map (λ n. from + n)) (sym (e ∙ position_from-zero p rest))))
+
+  pub end_some : (n : ℕ) → r ≡ Some n → r ≡ position (λ b. eqb b newline) rest → rest ≡ drop from l → from + n ≡ end_from from l
+  end_some n h e f = sym (end_is e f ∙ rw h)
+
+  pub end_past : r ≡ None → r ≡ position (λ b. eqb b newline) rest → rest ≡ drop from l → length l ≡ end_from from l
+  end_past h e f = sym (end_is e f ∙ rw h)
 
 -- ── a list, of positions from i on, cut at e: no byte 10 before it, and one there ──
 record Cut (l : List ℕ) (i e : ℕ) : Type 0 where
@@ -63,7 +74,8 @@ cut (b ∷ l) i n h =
 
 module _ (from : ℕ) (l : List ℕ) where
   past : length l < from → end_from from l ≡ length l
-  past h = sym (end_past from l from (end_start from l) (omega arith))
+  unfolding end_from first_at
+  past h = let q : length l ≤ from = omega arith in rw (drop_of_length-le l q) refl
 
   cut_here : from ≤ length l → Cut (drop from l) from (end_from from l)
   unfolding end_from

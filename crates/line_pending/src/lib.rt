@@ -1,21 +1,10 @@
 // The bytes kept of a line that is not ended yet, and the end of a line in a piece of input.
 #![tactic(auto)]
 
-ghost use Rattle.std.specs.Prelude.{◌-◌, min, ◌≡◌, true, [], ◌++◌, take};
+ghost use Rattle.std.specs.Prelude.{◌≡◌, true, [], ◌++◌, take};
 ghost use Rattle.rules.specs.Lists.{is_empty};
 ghost use Rattle.line_format.specs.Bytes.{line_limit};
 ghost use Rattle.line_pending.specs.View.{view_pending, pending_form, end_from, between};
-
-// How many bytes of a piece there are from one position up to another, but no more than there is room for.
-fn taken(size: usize, from: usize, to: usize, room: usize) -> usize
-    ensures { result ≡ min room (min to size - from) }
-{
-    let end = lists::lesser(to, size);
-    if end <= from {
-        return 0;
-    }
-    lists::lesser(room, end - from)
-}
 
 // The first bytes of a line: one more than the longest line in form has, which tells that a line is too long.
 #[derive(Clone, Copy)]
@@ -40,10 +29,7 @@ impl Pending {
     pub fn is_empty(self) -> bool
         ensures { result ≡ is_empty (view_pending self) }
     {
-        if self.len == 0 {
-            return true;
-        }
-        false
+        self.len == 0
     }
 
     // The bytes of a piece from one position up to another put last, as far as there is room.
@@ -51,13 +37,10 @@ impl Pending {
         ensures shows { view_pending result ≡ take line_limit (view_pending self ++ between from to piece.now) }
         ensures form { pending_form result ≡ true }
     {
-        let at = lists::lesser(self.len as usize, Pending::LIMIT);
-        let n = taken(piece.len(), from, to, Pending::LIMIT - at);
-        let mut j: usize = 0;
-        while j < n {
-            self.line[at + j] = piece[from + j];
-            j += 1;
-        }
+        let new = piece.get(from..to.min(piece.len())).unwrap_or(&[]);
+        let at = (self.len as usize).min(Pending::LIMIT);
+        let n = new.len().min(Pending::LIMIT - at);
+        self.line[at..at + n].copy_from_slice(&new[..n]);
         self.len = (at + n) as u8;
         self
     }
@@ -67,12 +50,9 @@ impl Pending {
 pub fn line_end(piece: &[u8], from: usize) -> usize
     ensures { result ≡ end_from from piece.now }
 {
-    let mut i = from;
-    while i < piece.len() {
-        if piece[i] == line_format::NEWLINE {
-            return i;
-        }
-        i += 1;
+    let rest = piece.get(from..).unwrap_or(&[]);
+    match rest.iter().position(|&b| b == line_format::NEWLINE) {
+        Some(n) => from + n,
+        None => piece.len(),
     }
-    piece.len()
 }
