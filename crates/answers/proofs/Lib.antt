@@ -1,3 +1,3 @@
 -- Laws of answers.
-mod Variants
 pub mod Own
+pub mod Passing

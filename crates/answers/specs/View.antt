@@ -1,5 +1,5 @@
 -- Answers as the rules see them. The rules give each its numbers: `refusal_number`, `mark_number`, `reply_number`.
-use Rattle.std.specs.Prelude.{Bool, false, true, List, [], ◌∷◌, ℕ}
+use Rattle.std.specs.Prelude.{Bool, false, true, List, [], ◌∷◌, ℕ, Result, Ok, Err}
 use Rattle.std.proofs.Math.Option.{Option, none, some}
 use Rattle.rules.specs.Lists.{bit}
 use Rattle.rules.specs.Refusals as R
@@ -11,7 +11,7 @@ use Rattle.answers.specs.declared.Mark.TheVariants as mark
 use Rattle.answers.specs.declared.Reply.{Reply}
 use Rattle.answers.specs.declared.Reply.TheVariants as reply
 use Rattle.answers.specs.declared.Answer.{Answer}
-use Rattle.answers.specs.declared.Answer.TheVariants.{Refused, Done, Begun, Read, Changed, Committed, Advanced, Taken, Applied, Deleted, Swept, Reported}
+use Rattle.answers.specs.declared.Answer.TheVariants.{Done, Begun, Read, Changed, Committed, Advanced, Taken, Applied, Deleted, Swept, Reported}
 
 abbrev pub view_refusal : Refusal → R.Refusal
 view_refusal OutOfRange = R.out_of_range
@@ -49,19 +49,27 @@ view_reply reply.Done = C.done
 view_reply reply.DoneBefore = C.done_before
 
 -- what is told, in the order of the answer line
-abbrev pub view_answer : Answer → C.Answer
-view_answer (Refused r) = C.refused (view_refusal r)
-view_answer Done = C.fine []
-view_answer (Begun n) = C.fine (n ∷ [])
-view_answer (Read m) = C.fine (C.mark_number (view_mark m) ∷ [])
-view_answer (Changed n) = C.fine (n ∷ [])
-view_answer (Committed n) = C.fine (n ∷ [])
-view_answer (Advanced t) = C.fine (t ∷ [])
-view_answer (Taken n) = C.fine (n ∷ [])
-view_answer (Applied r) = C.fine (C.reply_number (view_reply r) ∷ [])
-view_answer (Deleted b) = C.fine (bit b ∷ [])
-view_answer (Swept n) = C.fine (n ∷ [])
-view_answer (Reported a b c) = C.fine (a ∷ b ∷ c ∷ [])
+abbrev pub told : Answer → List ℕ
+told Done = []
+told (Begun n) = n ∷ []
+told (Read m) = C.mark_number (view_mark m) ∷ []
+told (Changed n) = n ∷ []
+told (Committed n) = n ∷ []
+told (Advanced t) = t ∷ []
+told (Taken n) = n ∷ []
+told (Applied r) = C.reply_number (view_reply r) ∷ []
+told (Deleted b) = bit b ∷ []
+told (Swept n) = n ∷ []
+told (Reported a b c) = a ∷ b ∷ c ∷ []
+
+abbrev pub view_answer : Result Answer Refusal → C.Answer
+view_answer (Ok a) = C.fine (told a)
+view_answer (Err r) = C.refused (view_refusal r)
+
+-- the refusal that is met, if any
+abbrev pub refusal_met : {A : Type 0} → Result A Refusal → Option R.Refusal
+refusal_met (Ok a) = none
+refusal_met (Err r) = some (view_refusal r)
 
 -- the answer by a refusal, or by none: then these numbers are told
 abbrev pub answer_by : Option R.Refusal → List ℕ → C.Answer

@@ -1,10 +1,14 @@
-// What a call answers: a refusal, or what it tells. `number` has the paper's numbers of refusals, marks and replies.
+// What a call answers: what it tells, or the refusal that it meets, as `Result<Answer, Refusal>`. `number` has the paper's numbers of refusals,
+// marks and replies.
 #![tactic(auto)]
 
 ghost use Rattle.std.specs.Prelude.{◌≡◌};
 ghost use Rattle.rules.specs.Refusals.{refusal_number, ends_session};
 ghost use Rattle.rules.specs.Calls.{mark_number, reply_number};
-ghost use Rattle.answers.specs.View.{view_refusal, view_mark, view_reply, view_answer, is_refused, is_ending};
+ghost use Rattle.field.specs.View.{view_misfit};
+ghost use Rattle.answers.specs.View.{view_refusal, view_mark, view_reply};
+
+use field::Misfit;
 
 #[derive(Clone, Copy)]
 pub enum Refusal {
@@ -36,22 +40,22 @@ pub enum Refusal {
 // Where a read's fields came from: the cache; worked out and cached now; worked out, with a change of the session's own.
 #[derive(Clone, Copy)]
 pub enum Mark {
-    FromCache,
-    CachedNow,
-    OwnChange,
+    FromCache = 0,
+    CachedNow = 1,
+    OwnChange = 2,
 }
 
 // What a worker hears of its apply.
 #[derive(Clone, Copy)]
 pub enum Reply {
-    NoWord,
-    Done,
-    DoneBefore,
+    NoWord = 0,
+    Done = 1,
+    DoneBefore = 2,
 }
 
+// What a call that is accepted tells.
 #[derive(Clone, Copy)]
 pub enum Answer {
-    Refused(Refusal),
     // load, map, abandon, cut, store
     Done,
     // the new session's number
@@ -74,29 +78,6 @@ pub enum Answer {
     Reported(u8, u8, u8),
 }
 
-impl Answer {
-    pub fn is_refused(self) -> bool
-        ensures { result ≡ is_refused (view_answer self) }
-    {
-        if let Answer::Refused(_) = self {
-            true
-        } else {
-            false
-        }
-    }
-
-    // The session that called has ended by it.
-    pub fn ends_session(self) -> bool
-        ensures { result ≡ is_ending (view_answer self) }
-    {
-        if let Answer::Refused(r) = self {
-            r.ends_session()
-        } else {
-            false
-        }
-    }
-}
-
 impl Refusal {
     pub fn number(self) -> u8
         ensures { result ≡ refusal_number (view_refusal self) }
@@ -105,12 +86,21 @@ impl Refusal {
     }
 
     // The session that met it ends.
-    fn ends_session(self) -> bool
+    pub fn ends_session(self) -> bool
         ensures { result ≡ ends_session (view_refusal self) }
     {
-        match self {
-            Refusal::WasDoomed | Refusal::ExclusiveElsewhere => true,
-            _ => false,
+        matches!(self, Refusal::WasDoomed | Refusal::ExclusiveElsewhere)
+    }
+}
+
+impl From<Misfit> for Refusal {
+    ghost from_gives = { λ m r. view_refusal r ≡ view_misfit m };
+
+    fn from(misfit: Misfit) -> Self {
+        match misfit {
+            Misfit::WrongKind => Refusal::WrongKind,
+            Misfit::SeventhMember => Refusal::SeventhMember,
+            Misfit::SumTooLarge => Refusal::SumTooLarge,
         }
     }
 }
@@ -119,11 +109,7 @@ impl Mark {
     pub fn number(self) -> u8
         ensures { result ≡ mark_number (view_mark self) }
     {
-        match self {
-            Mark::FromCache => 0,
-            Mark::CachedNow => 1,
-            Mark::OwnChange => 2,
-        }
+        self as u8
     }
 }
 
@@ -131,10 +117,6 @@ impl Reply {
     pub fn number(self) -> u8
         ensures { result ≡ reply_number (view_reply self) }
     {
-        match self {
-            Reply::NoWord => 0,
-            Reply::Done => 1,
-            Reply::DoneBefore => 2,
-        }
+        self as u8
     }
 }

@@ -1,57 +1,64 @@
--- What the code's tests of an i64 say of the integer. `held z` is the integer as the machine holds it.
+-- What a caller learns of an integer that it had read as a number. `held z` is the integer as the machine holds it.
 use mathlib.Core.Path.{◌≡◌, refl, sym, ◌∙◌, ap}
 use mathlib.Core.Bool.{Bool, true, false, cond, true≢false}
 use Prim.Native.Nat.{ℕ, ◌≤◌, ◌<◌}
 use native.Mathlib.Omega.{arith}
-use lib.Dec.{ltb, T}
-use lib.IntN.{ℤ, pos, negsuc, nat_abs}
-use lib.Signed.{lt_z, non_neg}
+use lib.Dec.{ltb}
+use lib.IntN.{ℤ, pos, negsuc}
 use mir.Syntax.{w64}
-use mir.Val.{SFits, Fits, to_z, of_z}
+use mir.Val.{SFits, to_z, of_z}
 use mir.Facts.{to_z-of_z}
-use borrow.Author.Tests.{lt-ltb, le-ltb, ltb-true, ltb-false}
+use borrow.Author.Tests.{ltb-true, ltb-false}
+use Rattle.std.specs.Prelude.{Option, Some, None}
+use Rattle.std.specs.Option.{unwrap_or}
 use Rattle.rules.proofs.Laws.{by_case}
 use Rattle.rules.specs.Values.{below, nat_of}
-use Rattle.arguments.specs.Numbers.{session_number, index_number}
+use Rattle.arguments.specs.Numbers.{session_number, index_number, index_of}
 
 abbrev pub held : ℤ → ℤ
 held z = to_z w64 (of_z w64 z)
 
--- ── the ways out of `index` and `session`, which give other where the number is not below the count ──
-neg_out : (z : ℤ) (k other : ℕ) → lt_z z (pos 0) ≡ true → other ≡ cond (below z k) (nat_of z) other
-neg_out (pos n) k other h = absurd (omega (arith, ltb-true n 0 h))
-neg_out (negsuc n) k other h = refl
+-- ── of `session` ──
+pub session_is : (z : ℤ) → SFits w64 z → (n : ℕ) → n ≡ session_number (held z) → n ≡ session_number z
+session_is z w n e = e ∙ ap session_number (to_z-of_z w)
 
-not_neg : (z : ℤ) → SFits w64 z → lt_z z (pos 0) ≡ false → T (non_neg z) × Fits w64 (nat_abs z)
-not_neg (pos n) w h = (tt, record { fits = omega (arith, w.sfits) })
-not_neg (negsuc n) w h = absurd (true≢false h)
+-- ── of `index` ──
+pub indexed : (z : ℤ) → SFits w64 z → (k : ℕ) (o : Option ℕ) → o ≡ index_of (held z) k → o ≡ index_of z k
+indexed z w k o e = e ∙ ap (λ (y : ℤ). index_of y k) (to_z-of_z w)
 
-small_in : (z : ℤ) (k other : ℕ) → lt_z z (pos 0) ≡ false → nat_abs z < k → nat_abs z ≡ cond (below z k) (nat_of z) other
-small_in (pos n) k other h l = rw (lt-ltb n k l) refl
-small_in (negsuc n) k other h l = absurd (true≢false h)
+-- o is what it answered
+module _ (z : ℤ) (k : ℕ) (o : Option ℕ) (e : o ≡ index_of z k) where
+  pub none_below : o ≡ None → below z k ≡ false
+  none_below n = let q : None ≡ index_of z k = sym n ∙ e in by_case (below z k) (λ t. cc (rw t at q)) (λ t. t)
 
-large_out : (z : ℤ) (k other : ℕ) → lt_z z (pos 0) ≡ false → k ≤ nat_abs z → other ≡ cond (below z k) (nat_of z) other
-large_out (pos n) k other h l = rw (le-ltb n k l) refl
-large_out (negsuc n) k other h l = absurd (true≢false h)
+  pub none_number : o ≡ None → k ≡ index_number z k
+  none_number n = rw (none_below n) refl
 
-module _ (z : ℤ) (w : SFits w64 z) where
-  pub gives_negative : (k other : ℕ) → lt_z (held z) (pos 0) ≡ true → other ≡ cond (below z k) (nat_of z) other
-  gives_negative k other h = neg_out z k other (rw (to_z-of_z w) at h)
+  -- the value of o, or k
+  pub or_number : (w : ℕ) → w ≡ unwrap_or o k → w ≡ index_number z k
+  or_number w q = q ∙ rw e (by_case (below z k) (λ t. rw t refl) (λ t. rw t refl))
 
-  pub natural_fits : lt_z (held z) (pos 0) ≡ false → T (non_neg (held z)) × Fits w64 (nat_abs (held z))
-  natural_fits h = rw (to_z-of_z w) (not_neg z w (rw (to_z-of_z w) at h))
+  module _ (w : ℕ) (n : o ≡ Some w) where
+    is_some : Some w ≡ index_of z k
+    is_some = sym n ∙ e
 
-  pub gives_below : (k other : ℕ) → lt_z (held z) (pos 0) ≡ false → nat_abs (held z) < k → nat_abs (held z) ≡ cond (below z k) (nat_of z) other
-  gives_below k other h l = rw (to_z-of_z w) (small_in z k other (rw (to_z-of_z w) at h) (rw (to_z-of_z w) at l))
+    pub some_below : below z k ≡ true
+    some_below = by_case (below z k) (λ t. t) (λ t. cc (rw t at is_some))
 
-  pub gives_past : (k other : ℕ) → lt_z (held z) (pos 0) ≡ false → k ≤ nat_abs (held z) → other ≡ cond (below z k) (nat_of z) other
-  gives_past k other h l = large_out z k other (rw (to_z-of_z w) at h) (rw (to_z-of_z w) at l)
+    pub some_is : nat_of z ≡ w
+    some_is = cc (rw some_below at is_some)
 
-  -- what a caller of `session` learns
-  pub session_is : (n : ℕ) → n ≡ session_number (held z) → n ≡ session_number z
-  session_is n e = e ∙ ap session_number (to_z-of_z w)
+    pub some_number : w ≡ index_number z k
+    some_number = rw some_below (sym some_is)
 
--- ── what a caller of `index` learns ──
+    pub some_lt : w < k
+    some_lt = rw (sym some_is) (go z some_below)
+      where
+        go : (y : ℤ) → below y k ≡ true → nat_of y < k
+        go (pos n) b = ltb-true n k b
+        go (negsuc n) b = absurd (true≢false (sym b))
+
+-- ── of its number, or the count where there is none ──
 found : (z : ℤ) (k : ℕ) → index_number z k < k → (below z k ≡ true) × (index_number z k ≡ nat_of z)
 found (pos n) k l = go (ltb n k) refl l
   where

@@ -1,5 +1,5 @@
 -- Laws of a caller's changes.
 mod Reading
+mod Meeting
 -- what callers learn
 pub mod Asked
-pub mod Meeting

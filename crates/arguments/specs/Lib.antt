@@ -1,4 +1,3 @@
 -- The numbers that a caller's stand for.
 pub mod Numbers
-pub mod change
 pub mod places

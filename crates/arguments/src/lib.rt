@@ -5,34 +5,21 @@ pub mod change;
 pub mod places;
 
 ghost use Rattle.std.specs.Prelude.{◌≡◌};
-ghost use Rattle.arguments.specs.Numbers.{index_number, session_number};
+ghost use Rattle.arguments.specs.Numbers.{index_of, session_number};
 
 pub const LAST_SESSION: u64 = 4294967295;
 
-// The number where it is below the count, else the count.
-pub fn index(z: i64, count: u8) -> u8
-    ensures { result ≡ index_number z count }
+// The number where it is below the count.
+pub fn index(z: i64, count: u8) -> Option<u8>
+    ensures { result ≡ index_of z count }
 {
-    if z < 0 {
-        return count;
-    }
-    let n = z as u64;
-    if n < count as u64 {
-        return n as u8;
-    }
-    count
+    let n = u8::try_from(z).ok()?;
+    (n < count).then_some(n)
 }
 
-// A session's number, 0 where no session can have it.
+// A session's number, 0 where no session can have it: a number without a slot needs no test of its own.
 pub fn session(z: i64) -> u32
     ensures { result ≡ session_number z }
 {
-    if z < 0 {
-        return 0;
-    }
-    let n = z as u64;
-    if n <= LAST_SESSION {
-        return n as u32;
-    }
-    0
+    u32::try_from(z).unwrap_or(0)
 }

@@ -9,40 +9,24 @@ ghost use Rattle.plant.specs.View.{view_plant, plant_form, kept_plant};
 ghost use Rattle.plant.specs.With.{with_sessions};
 ghost use Rattle.caller.specs.Standing.{Judges};
 
-use answers::{Answer, Refusal};
+use answers::Refusal;
 use plant::Plant;
 use sessions::Sessions;
 use sessions::session::Session;
 
-// A session that makes a call, and the refusal that it meets by conditions 2 and 3, or `Done` where there is none.
-#[derive(Clone, Copy)]
-pub struct Caller {
-    pub refusal: Answer,
-    pub session: Session,
-}
-
-// Who calls as session n. The slot is asked for first, because looking the session up copies the table.
-pub fn of(sessions: Sessions, n: u32) -> Caller
+// Who calls as session n, or the refusal that it meets by conditions 2 and 3. The slot is asked for first, because looking the session up copies
+// the table.
+pub fn of(sessions: Sessions, n: u32) -> Result<Session, Refusal>
     ensures { Judges sessions n result }
 {
     if !sessions.has(n) {
-        let session = Session::empty();
-        return Caller {
-            refusal: Answer::Refused(Refusal::NoSlot),
-            session,
-        };
+        return Err(Refusal::NoSlot);
     }
     let session = sessions.session(n);
     if session.is_doomed() {
-        return Caller {
-            refusal: Answer::Refused(Refusal::WasDoomed),
-            session,
-        };
+        return Err(Refusal::WasDoomed);
     }
-    Caller {
-        refusal: Answer::Done,
-        session,
-    }
+    Ok(session)
 }
 
 // The end of a session: its slot is free, and what it held and changed is gone.
@@ -50,7 +34,5 @@ pub fn ended(p: Plant, session: i64) -> Sessions
     ensures shows { kept_plant p ≡ true → view_plant (with_sessions p result) ≡ ending (some (nat_of session)) (view_plant p) }
     ensures form { plant_form p ≡ true → plant_form (with_sessions p result) ≡ true }
 {
-    let n = arguments::session(session);
-    let sessions = p.sessions;
-    sessions.freed(n)
+    p.sessions.freed(arguments::session(session))
 }

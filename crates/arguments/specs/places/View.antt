@@ -1,5 +1,5 @@
 -- A map's four pairs as the rules see them, and the key that they make.
-use Rattle.std.specs.Prelude.{ℕ, Bool, ◌||◌, cond, not, List, [], ◌∷◌, drop, take, ltb, ℤ}
+use Rattle.std.specs.Prelude.{ℕ, Bool, ◌||◌, cond, not, List, [], drop, take, map, ltb, ℤ}
 use Rattle.rules.specs.Limits.{place_limit}
 use Rattle.rules.specs.Lists.{any}
 use Rattle.rules.specs.Values as S
@@ -19,7 +19,7 @@ pairs d e f g h i j k =
     }
 
 unfoldable pub view_places : Places → List S.Place
-view_places t = view_place t.first ∷ view_place t.second ∷ view_place t.third ∷ view_place t.fourth ∷ []
+view_places t = map view_place t.all
 
 -- a place that is not in use is not zero
 abbrev pub has_stray : ℕ → List S.Place → Bool

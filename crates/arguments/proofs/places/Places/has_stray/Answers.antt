@@ -1,16 +1,13 @@
 -- `Places::has_stray` meets its contract.
-use Rattle.arguments.proofs.places.PlacesLaws.{stray_first_lem, stray_second, stray_third, stray_fourth}
-use borrow.Author.Rules.{rules}
+use Rattle.std.proofs.Common.{rules, tests, not}
+use Rattle.rules.specs.Values as S
+use Rattle.rules.specs.Conditions.{is_zero}
+use Rattle.lists.proofs.Iterators.{shown, shown_any}
+use Rattle.arguments.specs.places.View.{view_places}
+use Rattle.arguments.proofs.places.PlacesLaws.{all_past}
 use Rattle.arguments.proofs.places.Places.has_stray.Goals as goal
 
-pub returns-then-is_stray : goal.returns-then-is_stray
-returns-then-is_stray c = search (stray_first_lem, rules)
-
-pub returns-then-is_stray-2 : goal.returns-then-is_stray-2
-returns-then-is_stray-2 c = search (stray_second, rules)
-
-pub returns-then-is_stray-3 : goal.returns-then-is_stray-3
-returns-then-is_stray-3 c = search (stray_third, rules)
-
 pub returns : goal.returns
-returns c = search (stray_fourth, rules)
+unfolding view_places
+returns c =
+    shown_any (λ (q : S.Place). not (is_zero q)) c.any.ensures.ran (shown c.iter.ensures.rest (all_past c.args.from c.args.self.all)) (λ x b f k. search (rules, tests, c.empty-zero.ensures.shows))

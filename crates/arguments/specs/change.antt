@@ -1,2 +1,0 @@
--- A change's refusal as the rules see it.
-pub mod View
