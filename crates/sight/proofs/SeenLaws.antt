@@ -4,9 +4,10 @@ use mathlib.Core.Path.{◌≡◌, refl, ◌∙◌, ap, sym}
 use mathlib.Core.Bool.{Bool, true, false, ◌||◌}
 use mathlib.Core.List.{List, ◌++◌, append_assoc}
 use lib.ListN.{take, drop, take-append-drop}
+use Rattle.std.specs.Prelude.{Option, Some, None, is_some}
 use Rattle.rules.specs.Lists.{any}
 use Rattle.rules.specs.Values.{Place, Field, Stock}
-use Rattle.rules.specs.Changes.{Update, run, follow}
+use Rattle.rules.specs.Changes.{Update, run, follow, sets_it}
 use Rattle.rules.specs.Tables.{Cached, Batch, changes_in}
 use Rattle.rules.specs.Reading.{shows_it, cached_field, known_away, seen_away, walk_back}
 use Rattle.rules.specs.Reading as R
@@ -27,20 +28,21 @@ module _ (keys : ℕ → List Place) (cache : List Cached) (buffer : List Batch)
   pub known_cached : a ≡ true → true ≡ known_away keys cache buffer own q
   known_cached e = rw (← x, e) refl
 
-  pub known_walked : (w : Walk) → a ≡ false → view_walk w ≡ walk_back buffer own q → w.found ≡ known_away keys cache buffer own q
+  pub known_walked : (w : Walk) → a ≡ false → view_walk w ≡ walk_back buffer own q → {b : Bool} → b ≡ is_some w.found → b ≡ known_away keys cache buffer own q
   unfolding view_walk
-  known_walked w e h = ap (λ (r : R.Walk). r.found) h ∙ sym (known_by_walk_lem keys cache buffer own q ∙ ap (λ b. b || (walk_back buffer own q).found) (sym x ∙ e))
+  known_walked w e h k = k ∙ ap (λ (r : R.Walk). r.found) h ∙ sym (known_by_walk_lem keys cache buffer own q ∙ ap (λ b. b || (walk_back buffer own q).found) (sym x ∙ e))
 
 module _ (keys : ℕ → List Place) (cache : List Cached) (buffer : List Batch) (own : List Update) (q : Place) (w : Walk) {f r : Field} (h : r ≡ run own q f) where
   -- from the session on in which the walk stopped, whatever the field was before
-  pub seen_found : (g : Field) → w.found ≡ true → Since buffer own q w → f ≡ run (changes_in (drop w.from buffer)) q g → r ≡ seen_away keys cache buffer own q
-  seen_found g e s k =
+  pub seen_found : (g : Field) (from : ℕ) → w.found ≡ Some from → Since buffer own q w → f ≡ run (changes_in (drop from buffer)) q g → r ≡ seen_away keys cache buffer own q
+  seen_found g from e s k =
+      let since : sets_it (changes_in (drop from buffer) ++ own) q ≡ true = rw e at s in
       run_from own q h k
-      ∙ sym (seen_since keys cache buffer own q (changes_in (take w.from buffer)) (changes_in (drop w.from buffer) ++ own)
-      (ap (λ l. changes_in l ++ own) (sym (take-append-drop w.from buffer)) ∙ ap (λ l. l ++ own) (flat_append (take w.from buffer) (drop w.from buffer))
-      ∙ append_assoc (changes_in (take w.from buffer)) (changes_in (drop w.from buffer)) own)
-      (s e) g ∙ run_append (changes_in (drop w.from buffer)) own q g)
+      ∙ sym (seen_since keys cache buffer own q (changes_in (take from buffer)) (changes_in (drop from buffer) ++ own)
+      (ap (λ l. changes_in l ++ own) (sym (take-append-drop from buffer)) ∙ ap (λ l. l ++ own) (flat_append (take from buffer) (drop from buffer))
+      ∙ append_assoc (changes_in (take from buffer)) (changes_in (drop from buffer)) own)
+      since g ∙ run_append (changes_in (drop from buffer)) own q g)
 
-  pub seen_shown : w.found ≡ false → view_walk w ≡ walk_back buffer own q → f ≡ cached_field keys q cache → r ≡ seen_away keys cache buffer own q
+  pub seen_shown : w.found ≡ None → view_walk w ≡ walk_back buffer own q → f ≡ cached_field keys q cache → r ≡ seen_away keys cache buffer own q
   unfolding view_walk
-  seen_shown e v k = run_from own q h k ∙ sym (seen_cached_lem keys cache buffer own q (ap (λ (x : R.Walk). x.found) (sym v) ∙ e))
+  seen_shown e v k = run_from own q h k ∙ sym (seen_cached_lem keys cache buffer own q (ap (λ (x : R.Walk). x.found) (sym v) ∙ ap is_some e))

@@ -43,7 +43,7 @@ pub fn known_away(keys: Keys, cache: Cache, buffer: Buffer, own: Changes, q: Pla
         return true;
     }
     let w = walk::back(buffer, own, q);
-    w.found
+    w.found.is_some()
 }
 
 // What a session sees where it is known, found without the store: worked out from the session on in which the walk stopped, else from a cached key's field.
@@ -52,22 +52,17 @@ pub fn seen_away(keys: Keys, cache: Cache, buffer: Buffer, own: Changes, q: Plac
     ensures form { cache_form cache ≡ true → field_form result ≡ true }
 {
     let w = walk::back(buffer, own, q);
-    if w.found {
-        let absent = Field::empty();
-        let shown = buffer.run(w.from, q, absent);
-        return own.run(q, shown);
-    }
-    let shown = cache.field(keys, q);
+    let shown = match w.found {
+        Some(from) => buffer.run(from, q, Field::empty()),
+        None => cache.field(keys, q),
+    };
     own.run(q, shown)
 }
 
 pub fn known(near: bool, keys: Keys, cache: Cache, buffer: Buffer, own: Changes, q: Place) -> bool
     ensures { result ≡ near || known_away (view_keys keys) (view_cache cache) (view_buffer buffer) (view_changes own) (view_place q) }
 {
-    if !near {
-        return known_away(keys, cache, buffer, own, q);
-    }
-    true
+    near || known_away(keys, cache, buffer, own, q)
 }
 
 pub fn field(

@@ -10,12 +10,11 @@ use buffer::Buffer;
 use changes::Changes;
 use keys::Place;
 
-// Whether it found a change that sets or unsets the place, how many changes it looked at, and how many buffered sessions it did not reach.
+// Where it found a change that sets or unsets the place, as the number of buffered sessions that it did not reach, and how many changes it looked at.
 #[derive(Clone, Copy)]
 pub struct Walk {
-    pub found: bool,
+    pub found: Option<u8>,
     pub looked: u16,
-    pub from: u8,
 }
 
 // It starts at the newest change and stops at the first set or unset of the place: over the session's own changes, which are the newest, then over the
@@ -29,25 +28,19 @@ pub fn back(buffer: Buffer, own: Changes, q: Place) -> Walk
     let mut looked: u16 = 0;
     let found = 'walk: loop {
         let count = changes.len();
-        let mut c = Changes::LIMIT as u8;
-        while 0 < c {
-            c -= 1;
+        for c in (0..Changes::LIMIT as u8).rev() {
             if changes.sets_at(c, q) {
                 looked += (count - c) as u16;
-                break 'walk true;
+                break 'walk Some(from);
             }
         }
         looked += count as u16;
         if from == 0 {
-            break 'walk false;
+            break 'walk None;
         }
         from -= 1;
         let b = buffer.batches[from as usize];
         changes = b.changes;
     };
-    Walk {
-        found,
-        looked,
-        from,
-    }
+    Walk { found, looked }
 }

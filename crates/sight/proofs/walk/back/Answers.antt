@@ -3,7 +3,6 @@ use borrow.Author.Rules.{rules}
 use Prim.Native.Nat.{◌-◌, ◌≤◌}
 use native.Mathlib.Omega.{arith}
 use mathlib.Core.Path.{refl, sym}
-use mathlib.Core.Bool.{true≢false}
 use lib.ListN.{length}
 use Rattle.keys.specs.View.{view_place}
 use Rattle.changes.specs.View.{view_changes}
@@ -56,7 +55,7 @@ returns-then-sets_at c =
     let none = c.loop-c.invariant.1 in
     record {
       shows = rw (c.loop-c.invariant.0, c.len-count.ensures.counts) (sym (walk_found l q some c.sets_at.ensures none w.invariant c.if-sets_at.true));
-      since = λ h. found_since l q some c.sets_at.ensures none w.invariant c.if-sets_at.true;
+      since = found_since l q some c.sets_at.ensures none w.invariant c.if-sets_at.true;
     }
 
 pub returns-then-from-eq0 : goal.returns-then-from-eq0
@@ -65,5 +64,5 @@ returns-then-from-eq0 c =
     let w = c.walk in
     record {
       shows = rw (c.loop-c.invariant.0, c.len-count.ensures.counts) (sym (walk_none w.invariant c.loop-c-test.false c.loop-c.invariant.1 c.if-from-eq0.true));
-      since = λ h. absurd (true≢false (sym h));
+      since = tt;
     }
