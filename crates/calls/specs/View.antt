@@ -5,7 +5,6 @@ use Rattle.arguments.specs.places.View.{pairs}
 use Rattle.lists.specs.Table.{counted}
 use Rattle.calls.specs.declared.Call.{Call}
 use Rattle.calls.specs.declared.Call.TheVariants.{Load, Map, Begin, Read, Change, Commit, Abandon, Advance, Take, Apply, Delete, Cut, Sweep, Store, Report}
-use Rattle.calls.specs.declared.Item.{Item}
 use Rattle.calls.specs.declared.Calls.{Calls}
 
 abbrev pub view_call : Call → C.Call
@@ -30,4 +29,4 @@ abbrev pub list_limit : ℕ
 list_limit = 128
 
 unfoldable pub view_calls : Calls → List Call
-view_calls t = counted (λ (i : Item). i.call) t.count t.items
+view_calls t = counted (λ (c : Call). c) t.count t.items

@@ -38,16 +38,10 @@ pub enum Call {
     Report(i64),
 }
 
-// A call of a list, because a field cannot be an array of enums.
-#[derive(Clone, Copy)]
-pub struct Item {
-    pub call: Call,
-}
-
 // Calls one after the other: the first `count`.
 #[derive(Clone, Copy)]
 pub struct Calls {
-    pub items: [Item; Calls::LIMIT],
+    pub items: [Call; Calls::LIMIT],
     pub count: u8,
 }
 
@@ -58,9 +52,8 @@ impl Calls {
         ensures shows { view_calls result ≡ [] }
         ensures entries { (length result.items ≡ list_limit) × (result.count ≡ 0) }
     {
-        let any = Item { call: Call::Begin };
         Self {
-            items: [any; Calls::LIMIT],
+            items: [Call::Begin; Calls::LIMIT],
             count: 0,
         }
     }
@@ -69,24 +62,15 @@ impl Calls {
     pub fn len(self) -> usize
         ensures { result ≡ length (view_calls self) }
     {
-        let n = self.count as usize;
-        if Calls::LIMIT <= n {
-            return Calls::LIMIT;
-        }
-        n
+        (self.count as usize).min(Calls::LIMIT)
     }
 
     // One more, if there is room.
     pub fn push(self, c: Call) -> Self
         ensures { view_calls result ≡ pushed list_limit (view_calls self) c }
     {
-        let at = self.count as usize;
-        if Calls::LIMIT <= at {
-            return self;
-        }
         let mut calls = self;
-        calls.items[at] = Item { call: c };
-        calls.count = self.count + 1;
+        lists::push(&mut calls.items, &mut calls.count, c);
         calls
     }
 }

@@ -1,14 +1,10 @@
 -- `Calls::len` meets its contract.
-use Rattle.lists.proofs.Loops.{length_mapped}
-use Rattle.lists.proofs.Views.{counted-few, counted_full}
-use Rattle.calls.specs.View.{view_calls}
+use mathlib.Core.Path.{sym, ◌∙◌}
 use borrow.Author.Rules.{rules}
+use Rattle.lists.proofs.Views.{counted-length}
+use Rattle.calls.specs.View.{view_calls, list_limit}
 use Rattle.calls.proofs.Calls.len.Goals as goal
-
-pub returns-then-n-ge-LIMIT : goal.returns-then-n-ge-LIMIT
-unfolding view_calls
-returns-then-n-ge-LIMIT c = search (counted_full, length_mapped, rules)
 
 pub returns : goal.returns
 unfolding view_calls
-returns c = search (counted-few, length_mapped, rules)
+returns c = c.min.ensures ∙ sym (counted-length (λ x. x) _ _ list_limit (search rules))

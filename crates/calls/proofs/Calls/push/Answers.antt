@@ -1,14 +1,9 @@
 -- `Calls::push` meets its contract.
-use Rattle.lists.proofs.Loops.{length_mapped}
-use Rattle.lists.proofs.Views.{push_room, push_full}
-use Rattle.calls.specs.View.{view_calls}
 use borrow.Author.Rules.{rules}
+use Rattle.lists.proofs.Iterators.{push_shows}
+use Rattle.calls.specs.View.{view_calls, list_limit}
 use Rattle.calls.proofs.Calls.push.Goals as goal
-
-pub returns-then-at-ge-LIMIT : goal.returns-then-at-ge-LIMIT
-unfolding view_calls
-returns-then-at-ge-LIMIT c = search (push_full, length_mapped, rules)
 
 pub returns : goal.returns
 unfolding view_calls
-returns c = search (push_room, length_mapped, rules)
+returns c = let p = c.push.ensures in push_shows list_limit c.args.c (search rules) p.item p.one_more p.full p.no_more (λ x. x)
