@@ -8,22 +8,18 @@ ghost use Rattle.plant.specs.With.{with_sessions};
 ghost use Rattle.answers.specs.Own.{is_answer_of};
 ghost use Rattle.promises.specs.Promise.{Answers, Performs};
 
-use answers::Answer;
+use answers::{Answer, Refusal};
 use plant::Plant;
 use sessions::Sessions;
 
-pub fn answer(p: Plant, session: i64) -> Answer
+pub fn answer(p: Plant, session: i64) -> Result<Answer, Refusal>
     ensures answers { (lent : List ℤ) → Answers (Abandon session) lent p result }
     ensures own { is_answer_of (Abandon session) result ≡ true }
 {
     let n = arguments::session(session);
     let sessions = p.sessions;
-    let who = caller::of(sessions, n);
-    let turned = who.refusal;
-    if turned.is_refused() {
-        return turned;
-    }
-    Answer::Done
+    caller::of(sessions, n)?;
+    Ok(Answer::Done)
 }
 
 pub fn after(p: Plant, session: i64) -> Sessions

@@ -22,8 +22,9 @@ use Rattle.rules.specs.Step.{accepted}
 use Rattle.rules.proofs.Laws.{by_case, not_met}
 use Rattle.promises.specs.Promise.{result, Performs}
 use Rattle.promises.proofs.Telling.{refuses, accepts, none_held, left_accepted}
-use Rattle.arguments.specs.Numbers.{index_number}
-use Rattle.arguments.proofs.Numbers.{held, outside, inside, inside_is, index_is}
+use Rattle.std.specs.Prelude.{Option, Some, None, unwrap_or}
+use Rattle.arguments.specs.Numbers.{index_of}
+use Rattle.arguments.proofs.Numbers.{held, indexed}
 use Rattle.docset.specs.Sets.{docs}
 use Rattle.keys.specs.View.{view_keys}
 use Rattle.cache.specs.View.{view_cache}
@@ -40,56 +41,46 @@ use Rattle.plant.specs.declared.Plant.{Plant}
 use Rattle.plant.proofs.Formed.{form_with_cache, form_with_sessions, form_with_queue, form_with_clock}
 use Rattle.call_advance.specs.Left.{left}
 
--- ── the tick after some ticks ──
-module _ (clock n : ℕ) where
-  pub ended : last_tick < clock → suc last_tick ≡ cond (ltb last_tick (clock + n)) (suc last_tick) (clock + n)
-  ended h = rw (lt-ltb last_tick (clock + n) (omega arith)) refl
+-- ── the tick after some ticks; o is what `later` answered ──
+abbrev later_of : ℕ → Option ℕ
+later_of k = cond (ltb last_tick k) None (Some k)
 
-  pub ends_before : clock ≤ last_tick → last_tick - clock < n → suc last_tick ≡ cond (ltb last_tick (clock + n)) (suc last_tick) (clock + n)
-  ends_before l h = rw (lt-ltb last_tick (clock + n) (omega arith)) refl
+module _ (k : ℕ) (o : Option ℕ) (e : o ≡ later_of k) where
+  past_end : o ≡ None → ltb last_tick k ≡ true
+  past_end h = let q : None ≡ later_of k = sym h ∙ e in by_case (ltb last_tick k) (λ t. t) (λ t. cc (rw t at q))
 
-  pub goes_on : clock ≤ last_tick → n ≤ last_tick - clock → clock + n ≡ cond (ltb last_tick (clock + n)) (suc last_tick) (clock + n)
-  goes_on l h = rw (le-ltb last_tick (clock + n) (omega arith)) refl
+  module _ (now : ℕ) (h : o ≡ Some now) where
+    told : Some now ≡ later_of k
+    told = sym h ∙ e
 
-module _ (k now : ℕ) (e : now ≡ cond (ltb last_tick k) (suc last_tick) k) where
-  past_end : last_tick < now → ltb last_tick k ≡ true
-  past_end h = by_case (ltb last_tick k) (λ t. t) (λ t. lt-ltb last_tick k (omega (arith, rw t at e)))
+    within : ltb last_tick k ≡ false
+    within = by_case (ltb last_tick k) (λ t. cc (rw t at told)) (λ t. t)
 
-  within : now ≤ last_tick → ltb last_tick k ≡ false
-  within h = by_case (ltb last_tick k) (λ t. absurd (omega (arith, rw t at e))) (λ t. t)
+    is_later : now ≡ k
+    is_later = cc (rw within at told)
 
-  is_later : ltb last_tick k ≡ false → now ≡ k
-  is_later t = rw t at e
-
-module _ (p : Plant) (z : ℤ) (fits : SFits w64 z) (n : ℕ) (e : n ≡ index_number (held z) (suc advance_limit)) (lent : List ℤ) (kept : kept_plant p ≡ true) where
+module _ (p : Plant) (z : ℤ) (lent : List ℤ) (kept : kept_plant p ≡ true) where
   abbrev Answered : C.Answer → Type 0
   Answered a = a ≡ (result (Advance z) lent p).answer
 
-  pub out_of_range_lem : advance_limit < n → Answered (refused out_of_range)
+  pub out_of_range_lem : below z (suc advance_limit) ≡ false → Answered (refused out_of_range)
   unfolding conditions ◌⇒◌
-  out_of_range_lem l = refuses (Advance z) lent (view_plant p) _ (rw (outside z fits (suc advance_limit) n e (omega arith)) refl)
+  out_of_range_lem l = refuses (Advance z) lent (view_plant p) _ (rw l refl)
 
-  module _ (l : n ≤ advance_limit) (now : ℕ) (en : now ≡ cond (ltb last_tick (p.clock + n)) (suc last_tick) (p.clock + n)) where
-    in_range_lem : below z (suc advance_limit) ≡ true
-    in_range_lem = inside z fits (suc advance_limit) n e (omega arith)
-
-    ticks_are : nat_of z ≡ n
-    ticks_are = inside_is z fits (suc advance_limit) n e (omega arith)
-
-    pub clock_ends : last_tick < now → Answered (refused clock_end)
+  module _ (g : below z (suc advance_limit) ≡ true) (n : ℕ) (i : nat_of z ≡ n) (o : Option ℕ) (e : o ≡ later_of (p.clock + n)) where
+    pub clock_ends : o ≡ None → Answered (refused clock_end)
     unfolding conditions view_plant ◌⇒◌
-    clock_ends h = refuses (Advance z) lent (view_plant p) _ (rw (in_range_lem, ticks_are, past_end (p.clock + n) now en h) refl)
+    clock_ends h = refuses (Advance z) lent (view_plant p) _ (rw (g, i, past_end (p.clock + n) o e h) refl)
 
-    pub tick_told : now ≤ last_tick → Answered (fine (now ∷ []))
+    pub tick_told : (now : ℕ) → o ≡ Some now → Answered (fine (now ∷ []))
     unfolding conditions view_plant ◌⇒◌ accepted
-    tick_told h =
-        let w : ltb last_tick (p.clock + n) ≡ false = within (p.clock + n) now en h in
-        ap (λ (t : ℕ). fine (t ∷ [])) (is_later (p.clock + n) now en w ∙ ap (λ (m : ℕ). p.clock + m) (sym ticks_are))
-        ∙ accepts (Advance z) lent (view_plant p) (rw (in_range_lem, ticks_are, w) refl)
+    tick_told now h =
+        ap (λ (t : ℕ). fine (t ∷ [])) (is_later (p.clock + n) o e now h ∙ ap (λ (m : ℕ). p.clock + m) (sym i))
+        ∙ accepts (Advance z) lent (view_plant p) (rw (g, i, within (p.clock + n) o e now h) refl)
 
--- ── the plant left ──
-module _ (p : Plant) (z : ℤ) (fits : SFits w64 z) (n : ℕ) (e : n ≡ index_number (held z) (suc advance_limit))
-    (now : ℕ) (en : now ≡ cond (ltb last_tick (p.clock + n)) (suc last_tick) (p.clock + n))
+-- ── the plant left: n ticks, the clock at now ──
+module _ (p : Plant) (z : ℤ) (fits : SFits w64 z) (t : Option ℕ) (et : t ≡ index_of (held z) (suc advance_limit)) (n : ℕ) (en : n ≡ unwrap_or t 0)
+    (o : Option ℕ) (eo : o ≡ later_of (p.clock + n)) (now : ℕ) (ew : now ≡ unwrap_or o p.clock)
     (lost : ℕ) (el : docs lost ≡ is_lost now (view_sessions p.sessions))
     (ca : Cache) (ec : view_cache ca ≡ keep (stays (docs lost) (view_keys p.keys)) (view_cache p.cache))
     (ss : Sessions) (es : view_sessions ss ≡ each (lapse now) (view_sessions p.sessions))
@@ -102,10 +93,10 @@ module _ (p : Plant) (z : ℤ) (fits : SFits w64 z) (n : ℕ) (e : n ≡ index_n
   gone_on_lem kept lent h =
       let m = none_held (Advance z) lent (view_plant p) _ refl h in
       let g : below z (suc advance_limit) ≡ true = not-false (below z (suc advance_limit)) (not_met _ out_of_range m.0) in
-      let i : nat_of z ≡ n = index_is z fits (suc advance_limit) n e g in
-      let w : ltb last_tick (p.clock + n) ≡ false = rw i at (not_met (ltb last_tick (p.clock + nat_of z)) clock_end m.1.0) in
-      let t : now ≡ p.clock + nat_of z = is_later (p.clock + n) now en w ∙ ap (λ (k : ℕ). p.clock + k) (sym i) in
-      rw (ec, el, es, eq, t) refl
+      let i : n ≡ nat_of z = en ∙ rw (indexed z fits (suc advance_limit) t et, g) refl in
+      let w : ltb last_tick (p.clock + nat_of z) ≡ false = not_met (ltb last_tick (p.clock + nat_of z)) clock_end m.1.0 in
+      let l : now ≡ p.clock + nat_of z = ew ∙ rw (eo, i, w) refl in
+      rw (ec, el, es, eq, l) refl
       ∙ left_accepted (Advance z) lent (view_plant p) m
 
   pub gone_on_form : (cache_form p.cache ≡ true → cache_form ca ≡ true) → (sessions_form p.sessions ≡ true → sessions_form ss ≡ true) → (queue_form p.queue ≡ true → queue_form q ≡ true)

@@ -1,12 +1,12 @@
 // Advance: the clock goes on by a number of ticks, and what is due lapses.
 #![tactic(auto)]
 
-ghost use Rattle.std.specs.Prelude.{◌≡◌, true, cond, List, ℤ, ltb, ◌+◌, suc};
+ghost use Rattle.std.specs.Prelude.{◌≡◌, true, cond, List, ℤ, ltb, ◌+◌, suc, Some, None};
 ghost use Rattle.rules.specs.Limits.{advance_limit, last_tick};
-ghost use Rattle.rules.specs.Values.{below, nat_of};
 ghost use Rattle.rules.specs.Calls.{Advance};
 ghost use Rattle.plant.specs.View.{plant_form};
 ghost use Rattle.answers.specs.Own.{is_answer_of};
+ghost use Rattle.arguments.specs.Numbers.{index_of};
 ghost use Rattle.promises.specs.Promise.{Answers, Performs};
 ghost use Rattle.call_advance.specs.Left.{left};
 
@@ -20,46 +20,29 @@ const MOST_TICKS: u64 = 65535;
 
 const LAST_TICK: u64 = 99999999999;
 
-// The ticks, one more than the most where they are out of range.
-fn ticks_of(z: i64) -> u64
-    ensures { result ≡ cond (below z (suc advance_limit)) (nat_of z) (suc advance_limit) }
+// The ticks, if they are in range.
+fn ticks_of(z: i64) -> Option<u64>
+    ensures { result ≡ index_of z (suc advance_limit) }
 {
-    if z < 0 {
-        return MOST_TICKS + 1;
-    }
-    let n = z as u64;
-    if n <= MOST_TICKS {
-        return n;
-    }
-    MOST_TICKS + 1
+    let n = u64::try_from(z).ok()?;
+    (n <= MOST_TICKS).then_some(n)
 }
 
-// The tick after some ticks, one more than the last where the clock ends before.
-fn later(clock: u64, n: u64) -> u64
-    ensures { result ≡ cond (ltb last_tick (clock + n)) (suc last_tick) (clock + n) }
+// The tick after some ticks, if the clock does not end before.
+fn later(clock: u64, n: u64) -> Option<u64>
+    ensures { result ≡ cond (ltb last_tick (clock + n)) None (Some (clock + n)) }
 {
-    if LAST_TICK < clock {
-        return LAST_TICK + 1;
-    }
-    if LAST_TICK - clock < n {
-        return LAST_TICK + 1;
-    }
-    clock + n
+    let now = clock.checked_add(n)?;
+    (now <= LAST_TICK).then_some(now)
 }
 
-pub fn answer(p: Plant, ticks: i64) -> Answer
+pub fn answer(p: Plant, ticks: i64) -> Result<Answer, Refusal>
     ensures answers { (lent : List ℤ) → Answers (Advance ticks) lent p result }
     ensures own { is_answer_of (Advance ticks) result ≡ true }
 {
-    let n = ticks_of(ticks);
-    if MOST_TICKS < n {
-        return Answer::Refused(Refusal::OutOfRange);
-    }
-    let now = later(p.clock, n);
-    if LAST_TICK < now {
-        return Answer::Refused(Refusal::ClockEnd);
-    }
-    Answer::Advanced(now)
+    let n = ticks_of(ticks).ok_or(Refusal::OutOfRange)?;
+    let now = later(p.clock, n).ok_or(Refusal::ClockEnd)?;
+    Ok(Answer::Advanced(now))
 }
 
 // The tables that the call writes, as it leaves them.
@@ -75,7 +58,8 @@ pub fn after(p: Plant, ticks: i64) -> Left
     ensures shows { Performs (Advance ticks) p (left p result) }
     ensures form { plant_form p ≡ true → plant_form (left p result) ≡ true }
 {
-    let now = later(p.clock, ticks_of(ticks));
+    let n = ticks_of(ticks).unwrap_or(0);
+    let now = later(p.clock, n).unwrap_or(p.clock);
     let sessions = p.sessions;
     let lost = sessions.lost(now);
     let keys = p.keys;

@@ -11,7 +11,7 @@ ghost use Rattle.answers.specs.View.{view_answer};
 ghost use Rattle.plant.specs.View.{view_plant, kept_plant, plant_form};
 ghost use Rattle.answers.specs.Own.{is_answer_of};
 ghost use Rattle.promises.specs.Promise.{Answers, Performs};
-ghost use Rattle.call_apply.specs.Told.{no_row_for, told};
+ghost use Rattle.call_apply.specs.Told.{no_row_for, told, view_fate, FateOf};
 ghost use Rattle.call_apply.specs.Left.{left};
 
 use answers::{Answer, Refusal, Reply};
@@ -20,61 +20,64 @@ use rows::Rows;
 use store::Store;
 use workers::{Hand, Hands};
 
-// The fates: the reply arrives, is lost, or the store is never reached.
-const ARRIVES: u8 = 0;
+// What becomes of the call: the reply arrives, is lost, or the store is never reached.
+#[derive(Clone, Copy)]
+enum Fate {
+    Arrives = 0,
+    Lost = 1,
+    Unreached = 2,
+}
 
-const UNREACHED: u8 = 2;
+impl TryFrom<i64> for Fate {
+    type Error = Refusal;
 
-const FATES: u8 = 3;
+    ghost try_from_gives = { FateOf };
+
+    fn try_from(z: i64) -> Result<Self, Refusal> {
+        match z {
+            0 => Ok(Fate::Arrives),
+            1 => Ok(Fate::Lost),
+            2 => Ok(Fate::Unreached),
+            _ => Err(Refusal::OutOfRange),
+        }
+    }
+}
 
 // A session in it has had no reply.
 fn waits(hand: Hand) -> bool
     ensures { result ≡ full (view_hand hand) && not (replied (view_hand hand)) }
 {
-    if hand.is_full() {
-        return !hand.is_replied();
-    }
-    false
+    hand.is_full() && !hand.is_replied()
 }
 
 // What is told of a session that is sent to the store.
-fn reply(rows: Rows, n: u32, fate: u8) -> Answer
-    ensures shows { view_answer result ≡ told (view_rows rows) n fate }
+fn reply(rows: Rows, n: u32, fate: Fate) -> Result<Answer, Refusal>
+    ensures shows { view_answer result ≡ told (view_rows rows) n (view_fate fate) }
     ensures own { (w f : ℤ) → is_answer_of (Apply w f) result ≡ true }
 {
-    if fate != ARRIVES {
-        return Answer::Applied(Reply::NoWord);
+    match fate {
+        Fate::Arrives if rows.has(n) => Ok(Answer::Applied(Reply::DoneBefore)),
+        Fate::Arrives if Rows::LIMIT <= rows.len() as usize => Err(Refusal::RowsFull),
+        Fate::Arrives => Ok(Answer::Applied(Reply::Done)),
+        Fate::Lost | Fate::Unreached => Ok(Answer::Applied(Reply::NoWord)),
     }
-    if rows.has(n) {
-        return Answer::Applied(Reply::DoneBefore);
-    }
-    if Rows::LIMIT <= rows.len() as usize {
-        return Answer::Refused(Refusal::RowsFull);
-    }
-    Answer::Applied(Reply::Done)
 }
 
-pub fn answer(p: Plant, worker: i64, fate: i64) -> Answer
+pub fn answer(p: Plant, worker: i64, fate: i64) -> Result<Answer, Refusal>
     ensures answers { (lent : List ℤ) → Answers (Apply worker fate) lent p result }
     ensures own { is_answer_of (Apply worker fate) result ≡ true }
 {
-    let w = arguments::index(worker, Hands::LIMIT as u8);
-    if Hands::LIMIT <= w as usize {
-        return Answer::Refused(Refusal::OutOfRange);
-    }
-    let f = arguments::index(fate, FATES);
-    if FATES <= f {
-        return Answer::Refused(Refusal::OutOfRange);
-    }
+    let w = arguments::index(worker, Hands::LIMIT as u8).ok_or(Refusal::OutOfRange)?;
+    let fate = Fate::try_from(fate)?;
     let hand = p.hands.hand(w);
     if !waits(hand) {
-        return Answer::Refused(Refusal::WrongHand);
+        return Err(Refusal::WrongHand);
     }
     if !p.near {
-        return Answer::Refused(Refusal::StoreAway);
+        return Err(Refusal::StoreAway);
     }
     let number = hand.handed();
-    reply(p.rows, number, f)
+    reply(p.rows, number, fate)
 }
 
 // The tables that the call writes, as it leaves them.
@@ -90,41 +93,40 @@ fn carry(p: Plant, n: u32) -> Left
     ensures shows { kept_plant p ≡ true → view_plant (left p result) ≡ cond (no_row_for (view_rows p.rows) n) (view_plant p) (carried n (view_plant p)) }
     ensures form { plant_form p ≡ true → plant_form (left p result) ≡ true }
 {
-    let store = p.store;
-    let rows = p.rows;
-    let hands = p.hands;
-    if rows.has(n) {
-        return Left { store, rows, hands };
-    }
-    let count = rows.len();
-    if Rows::LIMIT <= count as usize {
-        return Left { store, rows, hands };
+    let full = Rows::LIMIT <= p.rows.len() as usize;
+    if full || p.rows.has(n) {
+        return Left {
+            store: p.store,
+            rows: p.rows,
+            hands: p.hands,
+        };
     }
     let changes = p.buffer.changes_of(n);
-    let store = store.follow(changes);
-    let rows = rows.push(n);
-    Left { store, rows, hands }
+    Left {
+        store: p.store.follow(changes),
+        rows: p.rows.push(n),
+        hands: p.hands,
+    }
 }
 
 pub fn after(p: Plant, worker: i64, fate: i64) -> Left
     ensures shows { Performs (Apply worker fate) p (left p result) }
     ensures form { plant_form p ≡ true → plant_form (left p result) ≡ true }
 {
-    let hands = p.hands;
-    let f = arguments::index(fate, FATES);
-    if f == UNREACHED {
-        let store = p.store;
-        let rows = p.rows;
-        return Left { store, rows, hands };
+    let w = arguments::index(worker, Hands::LIMIT as u8).unwrap_or(Hands::LIMIT as u8);
+    let fate = Fate::try_from(fate).unwrap_or(Fate::Unreached);
+    let hand = p.hands.hand(w);
+    match fate {
+        Fate::Arrives => {
+            let mut t = carry(p, hand.handed());
+            t.hands = t.hands.with(w, hand.answered());
+            t
+        }
+        Fate::Lost => carry(p, hand.handed()),
+        Fate::Unreached => Left {
+            store: p.store,
+            rows: p.rows,
+            hands: p.hands,
+        },
     }
-    let w = arguments::index(worker, Hands::LIMIT as u8);
-    let hand = hands.hand(w);
-    let number = hand.handed();
-    let mut t = carry(p, number);
-    if f != ARRIVES {
-        return t;
-    }
-    let heard = hand.answered();
-    t.hands = t.hands.with(w, heard);
-    t
 }

@@ -19,25 +19,21 @@ use sessions::Sessions;
 fn is_full(t: Sessions) -> bool
     ensures { result ≡ leb slot_limit (length (view_sessions t)) && not (any (λ s. s.session.doomed) (view_sessions t)) }
 {
-    let taken = t.len() as usize;
-    if taken < Sessions::LIMIT {
-        return false;
-    }
-    !t.any_doomed()
+    Sessions::LIMIT <= t.len() as usize && !t.any_doomed()
 }
 
-pub fn answer(p: Plant) -> Answer
+pub fn answer(p: Plant) -> Result<Answer, Refusal>
     ensures answers { (lent : List ℤ) → Answers Begin lent p result }
     ensures own { is_answer_of Begin result ≡ true }
 {
     let number = p.next;
     if arguments::LAST_SESSION < number {
-        return Answer::Refused(Refusal::NumbersSpent);
+        return Err(Refusal::NumbersSpent);
     }
     if is_full(p.sessions) {
-        return Answer::Refused(Refusal::SlotsFull);
+        return Err(Refusal::SlotsFull);
     }
-    Answer::Begun(number as u32)
+    Ok(Answer::Begun(number as u32))
 }
 
 // The tables that the call writes, as it leaves them.

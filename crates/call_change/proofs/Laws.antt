@@ -1,20 +1,23 @@
 -- What change answers, one law for each way out.
 use mathlib.Core.Path.{◌≡◌, refl, sym, ◌∙◌, ap}
+use Rattle.std.specs.Prelude.{Result, Ok, Err, Some, None, is_some, IfSome}
+use Rattle.std.specs.Prelude as P
 use mathlib.Core.Bool.{Bool, true, false, not, ◌&&◌, ◌||◌}
 use mathlib.Core.Option.{Option, none, some}
 use mathlib.Core.List.{List, [], ◌∷◌, ◌++◌}
 use Prim.Native.Nat.{ℕ, suc, ◌<◌, ◌≤◌, ◌+◌}
 use native.Mathlib.Numerals.{add-one}
-use lib.Dec.{eqb, leb}
+use lib.Dec.{leb}
 use lib.IntN.{ℤ}
 use lib.ListN.{length}
 use mir.Syntax.{w64}
 use mir.Val.{SFits}
 use mir.Facts.{to_z-of_z}
-use borrow.Author.Tests.{lt-ltb, le-leb, lt-leb, eq-eqb, ne_eqb}
+use borrow.Author.Tests.{lt-ltb, le-leb, lt-leb}
 use Rattle.rules.specs.Limits.{document_count, field_count, change_limit}
 use Rattle.rules.specs.Values.{below, nat_of, in_range}
-use Rattle.rules.specs.Refusals.{Refusal, out_of_range, changes_full, exclusive_elsewhere, store_away, ◌⇒◌, first}
+use Rattle.rules.specs.Refusals as R
+use Rattle.rules.specs.Refusals.{out_of_range, changes_full, exclusive_elsewhere, store_away, ◌⇒◌, first}
 use Rattle.rules.specs.Changes.{kind_of, is_set, meets, place_of, update_of}
 use Rattle.rules.specs.Changes as C
 use Rattle.rules.specs.Tables as M
@@ -29,12 +32,13 @@ use Rattle.arguments.specs.Numbers.{session_number}
 use Rattle.arguments.proofs.Numbers.{held, session_is}
 use Rattle.keys.specs.View.{view_place, view_keys}
 use Rattle.keys.specs.declared.Keys.{Keys}
-use Rattle.field.specs.View.{view_field, refusal_of}
+use Rattle.field.specs.View.{view_field}
 use Rattle.field.specs.declared.Field.{Field}
 use Rattle.changes.specs.View.{view_changes, view_update}
 use Rattle.changes.specs.declared.Changes.{Changes}
 use Rattle.changes.specs.declared.Update.{Update}
 use Rattle.sessions.specs.session.View.{view_session}
+use Rattle.sessions.specs.declared.session.Session.{Session}
 use Rattle.sessions.specs.View.{view_sessions}
 use Rattle.sessions.specs.declared.Sessions.{Sessions}
 use Rattle.store.specs.View.{view_store}
@@ -47,13 +51,12 @@ use Rattle.cache.specs.View.{view_cache}
 use Rattle.cache.specs.declared.Cache.{Cache}
 use Rattle.plant.specs.View.{view_plant, kept_plant}
 use Rattle.plant.specs.declared.Plant.{Plant}
-use Rattle.answers.specs.View.{view_answer, view_refusal, answer_by, is_refused}
+use Rattle.answers.specs.View.{view_answer, view_refusal, refusal_met, answer_by}
 use Rattle.answers.specs.declared.Answer.{Answer}
 use Rattle.answers.specs.declared.Refusal as D
 use Rattle.promises.specs.Promise.{result}
 use Rattle.promises.proofs.Telling.{refuses, answers_by}
-use Rattle.arguments.specs.change.View.{refusal_at}
-use Rattle.caller.specs.declared.Caller.{Caller}
+use Rattle.arguments.proofs.change.Asked.{asked_bad, asked_is}
 use Rattle.caller.specs.Standing.{standing, Judges}
 use Rattle.caller.proofs.Standing.{Asks, turned-first, is_open, its_number, its_session, turned, stands}
 use Rattle.sight.specs.Value.{value_by, value}
@@ -61,26 +64,16 @@ use Rattle.sight.specs.Sight.{sight, sight_away, at_hand}
 use Rattle.sight.proofs.Laws.{value-seen}
 use Rattle.call_change.specs.Met.{conditions_by, later_conditions, later_answer, found_answer}
 
--- ── whether the field is known ──
-module _ (k : ℕ) (x : Bool) (s : Bool) (es : s ≡ is_set (kind_of k)) where
-  pub needs_none : s ≡ true → false ≡ not (is_set (kind_of k)) && not x
-  needs_none h = rw (sym es, h) refl
+-- ── what it meets at its field; r is what `met` answered ──
+module _ (m : Option R.Refusal) (r : Result (Unit {0}) D.Refusal) (e : refusal_met r ≡ m) (n : ℕ) where
+  pub meets_none : (u : Unit {0}) → r ≡ Ok u → fine (n ∷ []) ≡ answer_by m (n ∷ [])
+  meets_none u h = rw (sym e, h) refl
 
-  pub needs_it : s ≡ false → (b : Bool) → b ≡ x → not b ≡ not (is_set (kind_of k)) && not x
-  needs_it h b eb = rw (sym es, h, eb) refl
-
--- ── what it meets at its field ──
-module _ (m : Option Refusal) (k : ℕ) (e : refusal_at k ≡ m) (n : ℕ) where
-  pub meets-none : k ≡ 0 → fine (n ∷ []) ≡ answer_by m (n ∷ [])
-  unfolding refusal_at
-  meets-none h = rw (sym e, eq-eqb k 0 h) refl
-
-  pub meets_one : (k ≡ 0 → ⊥) → (r : D.Refusal) → view_refusal r ≡ refusal_of k → refused (view_refusal r) ≡ answer_by m (n ∷ [])
-  unfolding refusal_at
-  meets_one h r er = ap refused er ∙ rw (sym e, ne_eqb k 0 h) refl
+  pub meets_one : (x : D.Refusal) → r ≡ Err x → refused (view_refusal x) ≡ answer_by m (n ∷ [])
+  meets_one x h = rw (sym e, h) refl
 
 -- ── from 5 on ──
-first_one : (o : Option Refusal) → first (o ∷ []) ≡ o
+first_one : (o : Option R.Refusal) → first (o ∷ []) ≡ o
 first_one none = refl
 first_one (some r) = refl
 
@@ -115,14 +108,14 @@ same_answer : (p : Plant) (n : ℕ) (own : List C.Update) (c : C.Update) → lat
 unfolding later_answer sight view_plant
 same_answer p n own c = refl
 
-first_under : (x y : Option Refusal) (s t : List (Option Refusal)) → first s ≡ first t → first (x ∷ y ∷ s) ≡ first (x ∷ y ∷ t)
+first_under : (x y : Option R.Refusal) (s t : List (Option R.Refusal)) → first s ≡ first t → first (x ∷ y ∷ s) ≡ first (x ∷ y ∷ t)
 first_under none none s t e = e
 first_under none (some r) s t e = refl
 first_under (some r) y s t e = refl
 
 -- where the field is needed it is known, and then it is found as it is seen
 module _ (p : Plant) (k : kept_plant p ≡ true) (cs : List C.Update) (c : C.Update) (r : in_range c.at ≡ true) where
-  abbrev unknown : Option Refusal
+  abbrev unknown : Option R.Refusal
   unknown = not (is_set c.kind) && not (known (view_plant p) cs c.at) ⇒ store_away
 
   found : first (unknown ∷ meets c (seen (view_plant p) cs c.at) ∷ []) ≡ first (unknown ∷ meets c (value (view_plant p) cs c.at) ∷ [])
@@ -132,96 +125,83 @@ module _ (p : Plant) (k : kept_plant p ≡ true) (cs : List C.Update) (c : C.Upd
       (λ s. rw (s, set-meets c (value (view_plant p) cs c.at) s, set-meets c (seen (view_plant p) cs c.at) s) refl)
       (λ s. by_case (known (view_plant p) cs c.at) (λ g. rw (s, g, value-seen p cs c.at k r g) refl) (λ g. rw (s, g) refl))
 
-  as_seen : (x y : Option Refusal) → first (x ∷ y ∷ unknown ∷ meets c (seen (view_plant p) cs c.at) ∷ []) ≡ first (x ∷ y ∷ unknown ∷ meets c (value (view_plant p) cs c.at) ∷ [])
+  as_seen : (x y : Option R.Refusal) → first (x ∷ y ∷ unknown ∷ meets c (seen (view_plant p) cs c.at) ∷ []) ≡ first (x ∷ y ∷ unknown ∷ meets c (value (view_plant p) cs c.at) ∷ [])
   as_seen x y = first_under x y (unknown ∷ meets c (seen (view_plant p) cs c.at) ∷ []) (unknown ∷ meets c (value (view_plant p) cs c.at) ∷ []) found
 
--- the change of four numbers: whether they are in their range, and then which it is
-pub in_range_lem : (d f k v : ℤ) → SFits w64 d → SFits w64 f → SFits w64 k → SFits w64 v → (c : Update) → not (eqb c.kind 0) ≡ (good_place (held d) (held f) && good_change (held k) (held v)) → not (eqb c.kind 0) ≡ (good_place d f && good_change k v)
-in_range_lem d f k v fd ff fk fv c eg = rw (to_z-of_z fd, to_z-of_z ff, to_z-of_z fk, to_z-of_z fv) at eg
-
-pub update_is : (d f k v : ℤ) → SFits w64 d → SFits w64 f → SFits w64 k → SFits w64 v → (c : Update) → (good_place (held d) (held f) && good_change (held k) (held v) ≡ true → view_update c ≡ update_of (place_of (held d) (held f)) (nat_of (held k)) (held v))
-    → good_place d f && good_change k v ≡ true → view_update c ≡ update_of (place_of d f) (nat_of k) v
-update_is d f k v fd ff fk fv c ec = rw (to_z-of_z fd, to_z-of_z ff, to_z-of_z fk, to_z-of_z fv) at ec
-
-module _ (p : Plant) (z d f k v : ℤ) (fd : SFits w64 d) (ff : SFits w64 f) (fk : SFits w64 k) (fv : SFits w64 v)
-    (c : Update) (eg : not (eqb c.kind 0) ≡ (good_place (held d) (held f) && good_change (held k) (held v)))
-    (ec : good_place (held d) (held f) && good_change (held k) (held v) ≡ true → view_update c ≡ update_of (place_of (held d) (held f)) (nat_of (held k)) (held v)) where
-  good_is : not (eqb c.kind 0) ≡ (good_place d f && good_change k v)
-  good_is = in_range_lem d f k v fd ff fk fv c eg
-
-  good : (c.kind ≡ 0 → ⊥) → good_place d f && good_change k v ≡ true
-  good h = sym good_is ∙ ap not (ne_eqb c.kind 0 h)
-
+-- o is the change of the four numbers
+module _ (o : P.Option Update) (p : Plant) (z d f k v : ℤ) (fd : SFits w64 d) (ff : SFits w64 f) (fk : SFits w64 k) (fv : SFits w64 v)
+    (eg : is_some o ≡ good_place (held d) (held f) && good_change (held k) (held v)) where
   -- without the store, of any plant
   abbrev Found : A.Answer → Type 0
   Found a = a ≡ found_answer z d f k v (at_hand p)
 
-  pub found_out : c.kind ≡ 0 → Found (refused out_of_range)
+  pub found_out : o ≡ None → Found (refused out_of_range)
   unfolding found_answer ◌⇒◌
-  found_out h = rw (sym good_is, eq-eqb c.kind 0 h) refl
+  found_out h = rw (asked_bad d f k v fd ff fk fv o eg h) refl
 
-  module _ (h : c.kind ≡ 0 → ⊥) (fz : SFits w64 z) (n : ℕ) (e : n ≡ session_number (held z))
-      (who : Caller) (j : Judges p.sessions n who) (t : Bool) (et : t ≡ is_refused (view_answer who.refusal)) where
-    abbrev changes : ℕ → List C.Update
-    changes i = (M.session i (view_sessions p.sessions)).changes
+  pub out_of_range_lem : (lent : List ℤ) → o ≡ None → refused out_of_range ≡ (result (Change z d f k v) lent p).answer
+  unfolding conditions ◌⇒◌
+  out_of_range_lem lent h = refuses (Change z d f k v) lent (view_plant p) _ (rw (asked_bad d f k v fd ff fk fv o eg h) refl)
 
-    abbrev later : ℕ → List (Option Refusal)
-    later i = later_conditions (at_hand p) i (changes i) (update_of (place_of d f) (nat_of k) v)
+  module _ (h : is_some o ≡ true) where
+    good : good_place d f && good_change k v ≡ true
+    good = sym (rw (to_z-of_z fd, to_z-of_z ff, to_z-of_z fk, to_z-of_z fv) at eg) ∙ h
 
-    abbrev Told : ℕ → A.Answer
-    Told i = answer_by (first ((not (good_place d f && good_change k v) ⇒ out_of_range) ∷ standing i (view_sessions p.sessions) ++ later i)) (suc (length (changes i)) ∷ [])
+    module _ (fz : SFits w64 z) (n : ℕ) (e : n ≡ session_number (held z)) where
+      abbrev changes : ℕ → List C.Update
+      changes i = (M.session i (view_sessions p.sessions)).changes
 
-    at_number : (a : A.Answer) → a ≡ Told n → Found a
-    unfolding found_answer sight_away
-    at_number a h = h ∙ ap Told (session_is z fz n e)
+      abbrev later : ℕ → List (Option R.Refusal)
+      later i = later_conditions (at_hand p) i (changes i) (update_of (place_of d f) (nat_of k) v)
 
-    pub found-turned : t ≡ true → Found (view_answer who.refusal)
-    unfolding ◌⇒◌
-    found-turned g = at_number (view_answer who.refusal) (rw (good h) (turned-first p.sessions n who j t et g (later n) (suc (length (changes n)) ∷ [])))
+      abbrev Told : ℕ → A.Answer
+      Told i = answer_by (first ((not (good_place d f && good_change k v) ⇒ out_of_range) ∷ standing i (view_sessions p.sessions) ++ later i)) (suc (length (changes i)) ∷ [])
 
-    pub found-later : t ≡ false → (r : A.Answer) → r ≡ later_answer (sight p.near p.store p.keys p.cache p.sessions p.buffer p.rows) n (view_changes who.session.changes) (view_update c) → p.near ≡ false → Found r
-    unfolding later_answer sight sight_away view_session ◌⇒◌
-    found-later g r er a =
-        let o = is_open p.sessions n who j t et g in
-        let mine : changes n ≡ view_changes who.session.changes = ap (λ (x : M.Session). x.changes) (sym j.shows) in
-        at_number r (er ∙ rw (good h, o.0, o.1, mine, a, update_is d f k v fd ff fk fv c ec (good h)) refl)
+      at_number : (a : A.Answer) → a ≡ Told n → Found a
+      unfolding found_answer sight_away
+      at_number a t = t ∙ ap Told (session_is z fz n e)
 
-  module _ (lent : List ℤ) (kept : kept_plant p ≡ true) where
-    abbrev Answered : A.Answer → Type 0
-    Answered a = a ≡ (result (Change z d f k v) lent p).answer
+      pub found-turned : (r : D.Refusal) → Judges p.sessions n (Err r) → Found (refused (view_refusal r))
+      unfolding ◌⇒◌
+      found-turned r j = at_number (refused (view_refusal r)) (rw good (turned-first p.sessions n r j (later n) (suc (length (changes n)) ∷ [])))
 
-    pub out_of_range_lem : c.kind ≡ 0 → Answered (refused out_of_range)
-    unfolding conditions ◌⇒◌
-    out_of_range_lem h = refuses (Change z d f k v) lent (view_plant p) _ (rw (sym good_is, eq-eqb c.kind 0 h) refl)
-
-    module _ (h : c.kind ≡ 0 → ⊥) (fz : SFits w64 z) (n : ℕ) (e : n ≡ session_number (held z))
-        (who : Caller) (j : Judges p.sessions n who) (t : Bool) (et : t ≡ is_refused (view_answer who.refusal)) where
       asks : Asks (λ i. Change i d f k v) (λ i q. conditions_by (seen q (own i q) (place_of d f)) q (nat_of i) (own i q) (update_of (place_of d f) (nat_of k) v))
       unfolding conditions ◌⇒◌
-      asks = record { first_two = λ i l q. rw (good h) refl }
+      asks = record { first_two = λ i l q. rw good refl }
 
-      pub turned_away : t ≡ true → Answered (view_answer who.refusal)
-      turned_away = turned asks p kept z fz n e who j t et lent
+      pub turned_away : (kept : kept_plant p ≡ true) (lent : List ℤ) (r : D.Refusal) → Judges p.sessions n (Err r) → refused (view_refusal r) ≡ (result (Change z d f k v) lent p).answer
+      turned_away kept lent r j = turned asks p kept z fz n e lent r j
 
       at_place : in_range (place_of d f) ≡ true
       at_place =
-          let x = and_true (good_place d f) (good_change k v) (good h) in
+          let x = and_true (good_place d f) (good_change k v) good in
           let y = and_true (below d document_count) (below f field_count) x.0 in
           both _ _ (lt-ltb (nat_of d) document_count (below_is d document_count y.0)) (lt-ltb (nat_of f) field_count (below_is f field_count y.1))
 
-      module _ (g : t ≡ false) where
-        own_is : own z (view_plant p) ≡ view_changes who.session.changes
-        unfolding view_session view_plant
-        own_is = ap (λ (x : M.Session). x.changes) (its_session p kept z fz n e who j t et g)
+      module _ (c : Update) (is : o ≡ Some c) (ec : IfSome o (λ u. view_update u ≡ update_of (place_of (held d) (held f)) (nat_of (held k)) (held v))) (s : Session) (j : Judges p.sessions n (Ok s)) where
+        update_is : view_update c ≡ update_of (place_of d f) (nat_of k) v
+        update_is = asked_is d f k v fd ff fk fv o ec c is
 
-        pub meeting : (r : Answer) → view_answer r ≡ later_answer (sight p.near p.store p.keys p.cache p.sessions p.buffer p.rows) n (view_changes who.session.changes) (view_update c) → Answered (view_answer r)
-        unfolding view_plant accepted later_answer
-        meeting r er =
-            er
-            ∙ same_answer p n (view_changes who.session.changes) (view_update c)
-            ∙ answers_by (Change z d f k v) lent (view_plant p) (suc (length (view_changes who.session.changes)) ∷ []) (rw own_is refl)
-            (first (later_conditions (view_plant p) n (view_changes who.session.changes) (view_update c)))
-            (stands asks p kept z fz n e who j t et lent g
-            ∙ rw (own_is, its_number p kept z fz n e who j t et g, update_is d f k v fd ff fk fv c ec (good h))
-            (as_seen p kept (view_changes who.session.changes) (update_of (place_of d f) (nat_of k) v) at_place
-            (leb change_limit (length (view_changes who.session.changes)) ⇒ changes_full) (M.others_exclusive n (nat_of d) (view_sessions p.sessions) ⇒ exclusive_elsewhere)))
+        pub found-later : (r : A.Answer) → r ≡ later_answer (sight p.near p.store p.keys p.cache p.sessions p.buffer p.rows) n (view_changes s.changes) (view_update c) → p.near ≡ false → Found r
+        unfolding later_answer sight sight_away view_session ◌⇒◌
+        found-later r er a =
+            let i = is_open p.sessions n s j in
+            let mine : changes n ≡ view_changes s.changes = ap (λ (x : M.Session). x.changes) (sym j.shows) in
+            at_number r (er ∙ rw (good, i.0, i.1, mine, a, update_is) refl)
+
+        module _ (kept : kept_plant p ≡ true) (lent : List ℤ) where
+          own_is : own z (view_plant p) ≡ view_changes s.changes
+          unfolding view_session view_plant
+          own_is = ap (λ (x : M.Session). x.changes) (its_session p kept z fz n e s j)
+
+          pub meeting : (r : Result Answer D.Refusal) → view_answer r ≡ later_answer (sight p.near p.store p.keys p.cache p.sessions p.buffer p.rows) n (view_changes s.changes) (view_update c) → view_answer r ≡ (result (Change z d f k v) lent p).answer
+          unfolding view_plant accepted later_answer
+          meeting r er =
+              er
+              ∙ same_answer p n (view_changes s.changes) (view_update c)
+              ∙ answers_by (Change z d f k v) lent (view_plant p) (suc (length (view_changes s.changes)) ∷ []) (rw own_is refl)
+              (first (later_conditions (view_plant p) n (view_changes s.changes) (view_update c)))
+              (stands asks p kept z fz n e lent s j
+              ∙ rw (own_is, its_number p kept z fz n e s j, update_is)
+              (as_seen p kept (view_changes s.changes) (update_of (place_of d f) (nat_of k) v) at_place
+              (leb change_limit (length (view_changes s.changes)) ⇒ changes_full) (M.others_exclusive n (nat_of d) (view_sessions p.sessions) ⇒ exclusive_elsewhere)))

@@ -1,13 +1,15 @@
 -- The plant that change leaves.
 use mathlib.Core.Path.{◌≡◌, refl, sym, ◌∙◌, ap, subst}
-use mathlib.Core.Bool.{true, false, not, cond, ◌&&◌, true≢false}
+use mathlib.Core.Bool.{true, false, cond, ◌&&◌, true≢false}
 use mathlib.Core.List.{List}
 use Prim.Native.Nat.{ℕ}
-use lib.Dec.{eqb, ltb}
+use lib.Dec.{ltb}
 use lib.IntN.{ℤ}
 use mir.Syntax.{w64}
 use mir.Val.{SFits}
-use borrow.Author.Tests.{lt-ltb, eq-eqb, ne_eqb, not-false}
+use mir.Facts.{to_z-of_z}
+use Rattle.std.specs.Prelude.{Option, Some, None, is_some, IfSome, unwrap_or}
+use borrow.Author.Tests.{lt-ltb, not-false}
 use Rattle.rules.specs.Limits.{document_count, field_count}
 use Rattle.rules.specs.Values.{below, nat_of}
 use Rattle.rules.specs.Refusals.{out_of_range, no_slot, was_doomed}
@@ -35,7 +37,11 @@ use Rattle.plant.proofs.PlantLaws.{kept_parts}
 use Rattle.promises.specs.Promise.{Performs}
 use Rattle.promises.proofs.Telling.{none_held, left_accepted}
 use Rattle.promises.proofs.Numbers.{slot_is, number_is}
-use Rattle.call_change.proofs.Laws.{in_range_lem, update_is}
+
+-- the change as `made` says it, of the numbers as they were given
+update_is : (d f k v : ℤ) → SFits w64 d → SFits w64 f → SFits w64 k → SFits w64 v → (c : Update) → (good_place (held d) (held f) && good_change (held k) (held v) ≡ true → view_update c ≡ update_of (place_of (held d) (held f)) (nat_of (held k)) (held v))
+    → good_place d f && good_change k v ≡ true → view_update c ≡ update_of (place_of d f) (nat_of k) v
+update_is d f k v fd ff fk fv c ec = rw (to_z-of_z fd, to_z-of_z ff, to_z-of_z fk, to_z-of_z fv) at ec
 
 module _ (p : Plant) (z d f k v : ℤ) (fd : SFits w64 d) (ff : SFits w64 f) (fk : SFits w64 k) (fv : SFits w64 v)
     (c : Update) (ec : good_place (held d) (held f) && good_change (held k) (held v) ≡ true → view_update c ≡ update_of (place_of (held d) (held f)) (nat_of (held k)) (held v)) where
@@ -62,12 +68,15 @@ module _ (p : Plant) (z d f k v : ℤ) (fd : SFits w64 d) (ff : SFits w64 f) (fk
         rw (et, in_stock g, grant_kept n (kept_parts p kept).slots l (view_update c), update_is d f k v fd ff fk fv c ec g, q) refl
         ∙ left_accepted (Change z d f k v) lent (view_plant p) m
 
--- ── what is written is in form ──
-module _ (d f k v : ℤ) (fd : SFits w64 d) (ff : SFits w64 f) (fk : SFits w64 k) (fv : SFits w64 v) (c : Update)
-    (eg : not (eqb c.kind 0) ≡ (good_place (held d) (held f) && good_change (held k) (held v))) where
-  -- where a number is out of its range nothing is said of the change
-  pub none_made : c.kind ≡ 0 → (r : Update) → good_place d f && good_change k v ≡ true → view_update r ≡ update_of (place_of d f) (nat_of k) v
-  none_made h r g = absurd (true≢false (sym g ∙ sym (in_range_lem d f k v fd ff fk fv c eg) ∙ ap not (eq-eqb c.kind 0 h)))
+-- ── the change that is made: o, or where a number is out of its range some change u ──
+module _ (d f k v : ℤ) (o : Option Update) (u r : Update) (er : r ≡ unwrap_or o u) where
+  pub made_is : is_some o ≡ (good_place d f && good_change k v) → IfSome o (λ c. view_update c ≡ update_of (place_of d f) (nat_of k) v) → good_place d f && good_change k v ≡ true → view_update r ≡ update_of (place_of d f) (nat_of k) v
+  made_is eg ec g = go o er eg ec
+    where
+      go : (o : Option Update) → r ≡ unwrap_or o u → is_some o ≡ (good_place d f && good_change k v) → IfSome o (λ c. view_update c ≡ update_of (place_of d f) (nat_of k) v) → view_update r ≡ update_of (place_of d f) (nat_of k) v
+      go None e i h = absurd (true≢false (sym g ∙ sym i))
+      go (Some c) e i h = ap view_update e ∙ h
 
-  pub made_used : (good_place (held d) (held f) && good_change (held k) (held v) ≡ true → is_used c ≡ true) → (c.kind ≡ 0 → ⊥) → is_used c ≡ true
-  made_used u h = u (sym eg ∙ ap not (ne_eqb c.kind 0 h))
+pub made_used : (o : Option Update) (u r : Update) → r ≡ unwrap_or o u → is_used u ≡ true → IfSome o (λ c. is_used c ≡ true) → is_used r ≡ true
+made_used None u r e h i = ap is_used e ∙ h
+made_used (Some c) u r e h i = ap is_used e ∙ i

@@ -25,8 +25,8 @@ use answers::{Answer, Refusal};
 use buffer::Buffer;
 use cache::Cache;
 use changes::{Changes, Update};
-use field::{Applied, Field};
-use keys::Keys;
+use field::Field;
+use keys::{Keys, Place};
 use plant::Plant;
 use rows::Rows;
 use sessions::Sessions;
@@ -36,23 +36,16 @@ use store::Store;
 fn is_unknown(near: bool, keys: Keys, cache: Cache, buffer: Buffer, own: Changes, c: Update) -> bool
     ensures { result ≡ not (is_set (kind_of c.kind)) && not (near || known_away (view_keys keys) (view_cache cache) (view_buffer buffer) (view_changes own) (view_place c.place)) }
 {
-    if changes::is_set(c.kind) {
-        return false;
-    }
-    !sight::known(near, keys, cache, buffer, own, c.place)
+    !changes::is_set(c.kind) && !sight::known(near, keys, cache, buffer, own, c.place)
 }
 
 // The answer of a change at a field, where the session has count changes with it.
-fn met(f: Field, c: Update, count: u8) -> Answer
+fn met(f: Field, c: Update, count: u8) -> Result<Answer, Refusal>
     ensures shows { view_answer result ≡ answer_by (meets (view_update c) (view_field f)) (count ∷ []) }
     ensures own { (s d x k v : ℤ) → is_answer_of (Change s d x k v) result ≡ true }
 {
-    let number = arguments::change::met(c, f);
-    if number == Applied::DONE {
-        return Answer::Changed(count);
-    }
-    let refusal = arguments::change::refusal(number);
-    Answer::Refused(refusal)
+    arguments::change::met(c, f)?;
+    Ok(Answer::Changed(count))
 }
 
 // The answer from refusal 5 on, of a change of session n whose own changes so far are these.
@@ -67,25 +60,32 @@ fn later(
     n: u32,
     own: Changes,
     c: Update,
-) -> Answer
+) -> Result<Answer, Refusal>
     ensures shows { view_answer result ≡ later_answer (sight near store keys cache sessions buffer rows) n (view_changes own) (view_update c) }
     ensures own { (s d x k v : ℤ) → is_answer_of (Change s d x k v) result ≡ true }
 {
     let count = own.len();
     if Changes::LIMIT <= count as usize {
-        return Answer::Refused(Refusal::ChangesFull);
+        return Err(Refusal::ChangesFull);
     }
     if sessions.others_exclusive(n, c.place.document) {
-        return Answer::Refused(Refusal::ExclusiveElsewhere);
+        return Err(Refusal::ExclusiveElsewhere);
     }
     if is_unknown(near, keys, cache, buffer, own, c) {
-        return Answer::Refused(Refusal::StoreAway);
+        return Err(Refusal::StoreAway);
     }
     let f = sight::field(near, store, keys, cache, buffer, rows, own, c.place);
     met(f, c, count + 1)
 }
 
-pub fn answer(p: Plant, session: i64, document: i64, field: i64, kind: i64, value: i64) -> Answer
+pub fn answer(
+    p: Plant,
+    session: i64,
+    document: i64,
+    field: i64,
+    kind: i64,
+    value: i64,
+) -> Result<Answer, Refusal>
     ensures away { p.near ≡ false → view_answer result ≡ found_answer session document field kind value (at_hand p) }
     ensures answers { (lent : List ℤ) → Answers (Change session document field kind value) lent p result }
     ensures own { is_answer_of (Change session document field kind value) result ≡ true }
@@ -94,17 +94,9 @@ pub fn answer(p: Plant, session: i64, document: i64, field: i64, kind: i64, valu
     let cache = p.cache;
     let sessions = p.sessions;
     let buffer = p.buffer;
-    let c = arguments::change::update(document, field, kind, value);
-    if c.kind == 0 {
-        return Answer::Refused(Refusal::OutOfRange);
-    }
+    let c = arguments::change::update(document, field, kind, value).ok_or(Refusal::OutOfRange)?;
     let n = arguments::session(session);
-    let who = caller::of(sessions, n);
-    let turned = who.refusal;
-    if turned.is_refused() {
-        return turned;
-    }
-    let s = who.session;
+    let s = caller::of(sessions, n)?;
     later(
         p.near, p.store, keys, cache, sessions, buffer, p.rows, n, s.changes, c,
     )
@@ -116,16 +108,11 @@ fn made(document: i64, field: i64, kind: i64, value: i64) -> Update
     ensures shows { good_place document field && good_change kind value ≡ true → view_update result ≡ update_of (place_of document field) (nat_of kind) value }
     ensures form { is_used result ≡ true }
 {
-    let c = arguments::change::update(document, field, kind, value);
-    if c.kind == 0 {
-        let place = c.place;
-        return Update {
-            place,
-            kind: Update::SET,
-            value: 0,
-        };
-    }
-    c
+    arguments::change::update(document, field, kind, value).unwrap_or(Update {
+        place: Place::empty(),
+        kind: Update::SET,
+        value: 0,
+    })
 }
 
 pub fn after(p: Plant, session: i64, document: i64, field: i64, kind: i64, value: i64) -> Sessions

@@ -33,26 +33,21 @@ fn buffered(b: Buffer, number: u32, changes: Changes) -> Buffer
     b.push(committed)
 }
 
-pub fn answer(p: Plant, session: i64) -> Answer
+pub fn answer(p: Plant, session: i64) -> Result<Answer, Refusal>
     ensures answers { (lent : List ℤ) → Answers (Commit session) lent p result }
     ensures own { is_answer_of (Commit session) result ≡ true }
 {
     let n = arguments::session(session);
     let sessions = p.sessions;
-    let who = caller::of(sessions, n);
-    let turned = who.refusal;
-    if turned.is_refused() {
-        return turned;
-    }
-    let s = who.session;
+    let s = caller::of(sessions, n)?;
     let count = p.buffer.len();
     if s.changes.is_empty() {
-        return Answer::Committed(count);
+        return Ok(Answer::Committed(count));
     }
     if Buffer::LIMIT <= count as usize {
-        return Answer::Refused(Refusal::BufferFull);
+        return Err(Refusal::BufferFull);
     }
-    Answer::Committed(count + 1)
+    Ok(Answer::Committed(count + 1))
 }
 
 // The tables that the call writes, as it leaves them.

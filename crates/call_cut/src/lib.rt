@@ -12,15 +12,12 @@ use answers::{Answer, Refusal};
 use plant::Plant;
 use workers::{Hand, Hands, Queue};
 
-pub fn answer(p: Plant, worker: i64) -> Answer
+pub fn answer(p: Plant, worker: i64) -> Result<Answer, Refusal>
     ensures answers { (lent : List ℤ) → Answers (Cut worker) lent p result }
     ensures own { is_answer_of (Cut worker) result ≡ true }
 {
-    let w = arguments::index(worker, Hands::LIMIT as u8);
-    if Hands::LIMIT <= w as usize {
-        return Answer::Refused(Refusal::OutOfRange);
-    }
-    Answer::Done
+    arguments::index(worker, Hands::LIMIT as u8).ok_or(Refusal::OutOfRange)?;
+    Ok(Answer::Done)
 }
 
 // The tables that the call writes, as it leaves them.
@@ -34,7 +31,7 @@ pub fn after(p: Plant, worker: i64) -> Left
     ensures shows { Performs (Cut worker) p (left p result) }
     ensures form { plant_form p ≡ true → plant_form (left p result) ≡ true }
 {
-    let w = arguments::index(worker, Hands::LIMIT as u8);
+    let w = arguments::index(worker, Hands::LIMIT as u8).unwrap_or(Hands::LIMIT as u8);
     let hand = Hand::empty();
     let hands = p.hands.with(w, hand);
     let queue = p.queue.orphaned(w);

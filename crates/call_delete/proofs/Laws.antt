@@ -1,6 +1,6 @@
 -- What delete answers and leaves, one law for each way out.
 use mathlib.Core.Path.{◌≡◌, refl, sym, ◌∙◌}
-use mathlib.Core.Bool.{Bool, true, false, cond, not, ◌&&◌}
+use mathlib.Core.Bool.{Bool, true, false, cond, ◌&&◌}
 use mathlib.Core.List.{List, [], ◌∷◌}
 use Prim.Native.Nat.{ℕ, ◌≤◌, ◌<◌}
 use lib.Dec.{ltb}
@@ -55,11 +55,11 @@ module _ (p : Plant) (z : ℤ) (fits : SFits w64 z) (w : ℕ) (e : w ≡ index_n
     hand_is : view_hands p.hands (nat_of z) ≡ view_hand h
     hand_is = hand_at p.hands z fits w e l h eh
 
-    pub no_reply : not f ≡ true → Answered (refused wrong_hand)
+    pub no_reply : f ≡ false → Answered (refused wrong_hand)
     unfolding conditions view_plant ◌⇒◌
     no_reply g = refuses (Delete z) lent (view_plant p) _ (rw (inside z fits worker_count w e l, hand_is, full-replied (view_hand h), sym ef, g) refl)
 
-    pub buffered_told : not f ≡ false → (n : ℕ) → n ≡ handed (view_hand h) → (b : Bool) → b ≡ is_buffered n (view_buffer p.buffer) → Answered (fine (bit b ∷ []))
+    pub buffered_told : f ≡ true → (n : ℕ) → n ≡ handed (view_hand h) → (b : Bool) → b ≡ is_buffered n (view_buffer p.buffer) → Answered (fine (bit b ∷ []))
     unfolding conditions view_plant ◌⇒◌ accepted
     buffered_told g n en b eb =
         rw (eb, en, sym hand_is) (accepts (Delete z) lent (view_plant p) (rw (inside z fits worker_count w e l, hand_is, full-replied (view_hand h), sym ef, g) refl))

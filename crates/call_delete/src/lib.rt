@@ -13,20 +13,17 @@ use buffer::Buffer;
 use plant::Plant;
 use workers::{Hand, Hands, Queue};
 
-pub fn answer(p: Plant, worker: i64) -> Answer
+pub fn answer(p: Plant, worker: i64) -> Result<Answer, Refusal>
     ensures answers { (lent : List ℤ) → Answers (Delete worker) lent p result }
     ensures own { is_answer_of (Delete worker) result ≡ true }
 {
-    let w = arguments::index(worker, Hands::LIMIT as u8);
-    if Hands::LIMIT <= w as usize {
-        return Answer::Refused(Refusal::OutOfRange);
-    }
+    let w = arguments::index(worker, Hands::LIMIT as u8).ok_or(Refusal::OutOfRange)?;
     let hand = p.hands.hand(w);
     if !hand.is_replied() {
-        return Answer::Refused(Refusal::WrongHand);
+        return Err(Refusal::WrongHand);
     }
     let number = hand.handed();
-    Answer::Deleted(p.buffer.has(number))
+    Ok(Answer::Deleted(p.buffer.has(number)))
 }
 
 // The tables that the call writes, as it leaves them.
@@ -41,7 +38,7 @@ pub fn after(p: Plant, worker: i64) -> Left
     ensures shows { Performs (Delete worker) p (left p result) }
     ensures form { plant_form p ≡ true → plant_form (left p result) ≡ true }
 {
-    let w = arguments::index(worker, Hands::LIMIT as u8);
+    let w = arguments::index(worker, Hands::LIMIT as u8).unwrap_or(Hands::LIMIT as u8);
     let held = p.hands;
     let hand = held.hand(w);
     let number = hand.handed();

@@ -26,31 +26,25 @@ pub fn answer(
     f3: i64,
     d4: i64,
     f4: i64,
-) -> Answer
+) -> Result<Answer, Refusal>
     ensures answers { (lent : List ℤ) → Answers (Map key count (pairs d1 f1 d2 f2 d3 f3 d4 f4)) lent p result }
     ensures own { is_answer_of (Map key count (pairs d1 f1 d2 f2 d3 f3 d4 f4)) result ≡ true }
 {
-    let k = arguments::index(key, Keys::LIMIT as u8);
-    if Keys::LIMIT <= k as usize {
-        return Answer::Refused(Refusal::OutOfRange);
-    }
-    let places = Places::of(d1, f1, d2, f2, d3, f3, d4, f4);
-    if !places.are_within() {
-        return Answer::Refused(Refusal::OutOfRange);
-    }
+    let k = arguments::index(key, Keys::LIMIT as u8).ok_or(Refusal::OutOfRange)?;
+    let places = Places::of(d1, f1, d2, f2, d3, f3, d4, f4).ok_or(Refusal::OutOfRange)?;
     if Plant::FIRST_SESSION < p.next {
-        return Answer::Refused(Refusal::SessionBegun);
+        return Err(Refusal::SessionBegun);
     }
     let old = p.keys.key(k);
     if !old.is_empty() {
-        return Answer::Refused(Refusal::KeyDefined);
+        return Err(Refusal::KeyDefined);
     }
-    let n = arguments::index(count, Key::LIMIT as u8 + 1);
+    let n = arguments::index(count, Key::LIMIT as u8 + 1).ok_or(Refusal::BadPlaces)?;
     let new = places.key(n);
     if new.is_empty() {
-        return Answer::Refused(Refusal::BadPlaces);
+        return Err(Refusal::BadPlaces);
     }
-    Answer::Done
+    Ok(Answer::Done)
 }
 
 pub fn after(
@@ -69,8 +63,10 @@ pub fn after(
     ensures shows { Performs (Map key count (pairs d1 f1 d2 f2 d3 f3 d4 f4)) p (with_keys p result) }
     ensures form { plant_form p ≡ true → plant_form (with_keys p result) ≡ true }
 {
-    let k = arguments::index(key, Keys::LIMIT as u8);
-    let places = Places::of(d1, f1, d2, f2, d3, f3, d4, f4);
-    let n = arguments::index(count, Key::LIMIT as u8 + 1);
-    p.keys.with(k, places.key(n))
+    let k = arguments::index(key, Keys::LIMIT as u8).unwrap_or(Keys::LIMIT as u8);
+    let n = arguments::index(count, Key::LIMIT as u8 + 1).unwrap_or(0);
+    match Places::of(d1, f1, d2, f2, d3, f3, d4, f4) {
+        Some(places) => p.keys.with(k, places.key(n)),
+        None => p.keys,
+    }
 }

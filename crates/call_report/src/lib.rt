@@ -6,23 +6,18 @@ ghost use Rattle.rules.specs.Calls.{Report};
 ghost use Rattle.answers.specs.Own.{is_answer_of};
 ghost use Rattle.promises.specs.Promise.{Answers};
 
-use answers::Answer;
+use answers::{Answer, Refusal};
 use plant::Plant;
 
-pub fn answer(p: Plant, session: i64) -> Answer
+pub fn answer(p: Plant, session: i64) -> Result<Answer, Refusal>
     ensures answers { (lent : List ℤ) → Answers (Report session) lent p result }
     ensures own { is_answer_of (Report session) result ≡ true }
 {
     let n = arguments::session(session);
     let sessions = p.sessions;
-    let who = caller::of(sessions, n);
-    let turned = who.refusal;
-    if turned.is_refused() {
-        return turned;
-    }
-    let s = who.session;
+    let s = caller::of(sessions, n)?;
     let shared = s.shared_count();
     let exclusive = s.exclusive_count();
     let changes = s.changes.len();
-    Answer::Reported(shared, exclusive, changes)
+    Ok(Answer::Reported(shared, exclusive, changes))
 }

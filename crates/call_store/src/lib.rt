@@ -13,19 +13,17 @@ use plant::Plant;
 
 const NEAR: u8 = 1;
 
-pub fn answer(p: Plant, mark: i64) -> Answer
+pub fn answer(p: Plant, mark: i64) -> Result<Answer, Refusal>
     ensures answers { (lent : List ℤ) → Answers (Store mark) lent p result }
     ensures own { is_answer_of (Store mark) result ≡ true }
 {
-    if NEAR < arguments::index(mark, NEAR + 1) {
-        return Answer::Refused(Refusal::OutOfRange);
-    }
-    Answer::Done
+    arguments::index(mark, NEAR + 1).ok_or(Refusal::OutOfRange)?;
+    Ok(Answer::Done)
 }
 
 pub fn after(p: Plant, mark: i64) -> bool
     ensures shows { Performs (Store mark) p (with_near p result) }
     ensures form { plant_form p ≡ true → plant_form (with_near p result) ≡ true }
 {
-    arguments::index(mark, NEAR + 1) == NEAR
+    arguments::index(mark, NEAR + 1) == Some(NEAR)
 }

@@ -1,12 +1,11 @@
 -- What sweep removes, answers and leaves, one law for each way out.
 use mathlib.Core.Path.{◌≡◌, refl, ◌∙◌}
-use mathlib.Core.Bool.{Bool, true, false, cond, not}
-use mathlib.Core.List.{List, [], ◌∷◌}
-use Prim.Native.Nat.{ℕ, ◌≤◌, ◌<◌}
+use mathlib.Core.Bool.{Bool, true, false, not}
+use mathlib.Core.List.{List, [], ◌∷◌, ◌++◌, map}
+use Prim.Native.Nat.{ℕ, ◌<◌}
 use native.Mathlib.Omega.{arith}
 use lib.IntN.{ℤ}
-use lib.ListN.{length, take}
-use borrow.Author.Tests.{lt-ltb, le-ltb}
+use lib.ListN.{length, take, length-map, length-take}
 use Rattle.rules.specs.Limits.{row_limit, sweep_limit}
 use Rattle.rules.specs.Lists.{has, keep, pushed}
 use Rattle.rules.specs.Refusals.{store_away, ◌⇒◌}
@@ -16,10 +15,10 @@ use Rattle.rules.specs.Calls as C
 use Rattle.rules.specs.Conditions.{conditions}
 use Rattle.rules.specs.Effects.{swept}
 use Rattle.rules.specs.Step.{accepted}
-use Rattle.rules.proofs.Laws.{by_case}
-use Rattle.lists.specs.Find.{fold}
+use Rattle.rules.proofs.Laws.{pushed_room}
+use Rattle.std.specs.List.{filter}
+use Rattle.std.proofs.lemmas.List.{map-append, map-id}
 use Rattle.lists.specs.Table.{counted}
-use Rattle.lists.proofs.Views.{keep_room, first_kept}
 use Rattle.promises.specs.Promise.{result, Performs}
 use Rattle.promises.proofs.Telling.{refuses, accepts, none_held, left_accepted}
 use Rattle.rows.specs.View.{view_rows, rows_form}
@@ -32,33 +31,19 @@ use Rattle.plant.specs.declared.Plant.{Plant}
 use Rattle.plant.proofs.Formed.{form_with_rows}
 
 -- ── what is removed ──
-module _ (l : List M.Batch) (hands : ℕ → M.Hand) (n : ℕ) where
-  pub stays_buffered : (t : Bool) → t ≡ M.is_buffered n l → t ≡ true → false ≡ M.unneeded l hands n
-  stays_buffered t e h = rw (← e, h) refl
+-- one more, where those so far are fewer than a sweep removes
+pub one_more : {A : Type 0} (f : A → ℕ) (xs : List A) (x : A) {l r : List ℕ} → l ≡ map f xs → (m : List ℕ) → length xs < length (take sweep_limit m) → r ≡ pushed row_limit l (f x) → r ≡ map f (xs ++ (x ∷ []))
+one_more f xs x e m h g =
+    let k : length (map f xs) < row_limit = rw (length-map xs f) (omega (arith, length-take sweep_limit m)) in
+    g ∙ rw (e, pushed_room row_limit (map f xs) (f x) k, map-append f xs (x ∷ []))
 
-  pub goes_unheld : (t : Bool) → t ≡ M.is_buffered n l → t ≡ false → (u : Bool) → u ≡ M.any_hand hands n → not u ≡ M.unneeded l hands n
-  goes_unheld t e h u g = rw (← e, h, ← g) refl
+filter_is : (p : ℕ → Bool) (l : List ℕ) → filter p l ≡ keep p l
+filter_is p [] = refl
+filter_is p (n ∷ l) = rw (filter_is p l)
 
-  module _ (x : List ℕ) where
-    abbrev Removes : List ℕ → Type 0
-    Removes r = r ≡ cond (M.unneeded l hands n) (pushed sweep_limit x n) x
-
-    pub all_removed : (k : ℕ) → k ≡ length x → sweep_limit ≤ k → Removes x
-    unfolding pushed
-    all_removed k ek h = by_case (M.unneeded l hands n) (λ e. rw (e, le-ltb (length x) sweep_limit (omega arith))) (λ e. rw e)
-
-    module _ (t : Bool) (e : t ≡ M.unneeded l hands n) where
-      -- the sweep's room is less than a table's
-      pub one_removed : (k : ℕ) → k ≡ length x → k < sweep_limit → t ≡ true → (r : List ℕ) → r ≡ pushed row_limit x n → Removes r
-      unfolding pushed
-      one_removed k ek h u r g = g ∙ rw (lt-ltb (length x) row_limit (omega arith), ← e, u, lt-ltb (length x) sweep_limit (omega arith))
-
-      pub one_left : t ≡ false → Removes x
-      one_left u = rw (← e, u) refl
-
-pub removed_start : (rows : Rows) (p : ℕ → Bool) (gone : Rows) → view_rows gone ≡ [] → take sweep_limit (keep p (view_rows rows)) ≡ fold (keep_room sweep_limit p) (view_rows gone) (counted (λ n. n) rows.count rows.numbers)
-unfolding view_rows
-removed_start rows p gone e = first_kept sweep_limit p (counted (λ n. n) rows.count rows.numbers) ∙ rw e refl
+pub all_removed : (rows : Rows) (p : ℕ → Bool) {l r : List ℕ} → r ≡ l → l ≡ take sweep_limit (filter p (take rows.count rows.numbers)) → r ≡ take sweep_limit (keep p (view_rows rows))
+unfolding view_rows counted
+all_removed rows p e h = e ∙ h ∙ rw (map-id rows.numbers, filter_is p (take rows.count rows.numbers))
 
 -- ── what is answered ──
 module _ (p : Plant) (lent : List ℤ) (kept : kept_plant p ≡ true) where

@@ -1,9 +1,9 @@
 // Sweep: of the rows that may go the first sixteen are removed from the store.
 #![tactic(auto)]
 
-ghost use Rattle.std.specs.Prelude.{◌≡◌, true, cond, List, ℤ, take};
+ghost use Rattle.std.specs.Prelude.{◌≡◌, true, List, ℤ, take};
 ghost use Rattle.rules.specs.Limits.{sweep_limit};
-ghost use Rattle.rules.specs.Lists.{keep, pushed};
+ghost use Rattle.rules.specs.Lists.{keep};
 ghost use Rattle.rules.specs.Tables.{unneeded};
 ghost use Rattle.rules.specs.Calls.{Sweep};
 ghost use Rattle.rows.specs.View.{view_rows};
@@ -21,58 +21,39 @@ use rows::Rows;
 use workers::Hands;
 
 // The most rows that a sweep removes.
-const SWEEP_LIMIT: u8 = 16;
+const SWEEP_LIMIT: usize = 16;
 
 // The session is neither buffered nor in a hand.
 fn may_go(buffer: Buffer, hands: Hands, n: u32) -> bool
     ensures { result ≡ unneeded (view_buffer buffer) (view_hands hands) n }
 {
-    if buffer.has(n) {
-        return false;
-    }
-    !hands.any_holds(n)
-}
-
-// One more, if it may go and fewer than sixteen go already.
-fn one_more(gone: Rows, buffer: Buffer, hands: Hands, n: u32) -> Rows
-    ensures { view_rows result ≡ cond (unneeded (view_buffer buffer) (view_hands hands) n) (pushed sweep_limit (view_rows gone) n) (view_rows gone) }
-{
-    if SWEEP_LIMIT <= gone.len() {
-        return gone;
-    }
-    if may_go(buffer, hands, n) {
-        return gone.push(n);
-    }
-    gone
+    !buffer.has(n) && !hands.any_holds(n)
 }
 
 // The first rows that may go, in the order in which they were applied.
 fn removed(rows: Rows, buffer: Buffer, hands: Hands) -> Rows
     ensures { view_rows result ≡ take sweep_limit (keep (unneeded (view_buffer buffer) (view_hands hands)) (view_rows rows)) }
 {
-    let count = rows.count as usize;
+    let going = lists::used(&rows.numbers, rows.count)
+        .iter()
+        .filter(|n| may_go(buffer, hands, **n))
+        .take(SWEEP_LIMIT);
     let mut gone = Rows::empty();
-    let mut i: usize = 0;
-    while i < Rows::LIMIT {
-        if count <= i {
-            return gone;
-        }
-        let n = rows.numbers[i];
-        gone = one_more(gone, buffer, hands, n);
-        i += 1;
+    for n in going {
+        gone = gone.push(*n);
     }
     gone
 }
 
-pub fn answer(p: Plant) -> Answer
+pub fn answer(p: Plant) -> Result<Answer, Refusal>
     ensures answers { (lent : List ℤ) → Answers Sweep lent p result }
     ensures own { is_answer_of Sweep result ≡ true }
 {
     if !p.near {
-        return Answer::Refused(Refusal::StoreAway);
+        return Err(Refusal::StoreAway);
     }
     let gone = removed(p.rows, p.buffer, p.hands);
-    Answer::Swept(gone.len())
+    Ok(Answer::Swept(gone.len()))
 }
 
 pub fn after(p: Plant) -> Rows

@@ -12,25 +12,22 @@ use answers::{Answer, Refusal};
 use plant::Plant;
 use workers::{Hand, Hands, Queue};
 
-pub fn answer(p: Plant, worker: i64) -> Answer
+pub fn answer(p: Plant, worker: i64) -> Result<Answer, Refusal>
     ensures answers { (lent : List ℤ) → Answers (Take worker) lent p result }
     ensures own { is_answer_of (Take worker) result ≡ true }
 {
-    let w = arguments::index(worker, Hands::LIMIT as u8);
-    if Hands::LIMIT <= w as usize {
-        return Answer::Refused(Refusal::OutOfRange);
-    }
+    let w = arguments::index(worker, Hands::LIMIT as u8).ok_or(Refusal::OutOfRange)?;
     let hand = p.hands.hand(w);
     if hand.is_full() {
-        return Answer::Refused(Refusal::WrongHand);
+        return Err(Refusal::WrongHand);
     }
     if p.queue.is_leased() {
-        return Answer::Refused(Refusal::QueueLeased);
+        return Err(Refusal::QueueLeased);
     }
     if p.buffer.is_empty() {
-        return Answer::Refused(Refusal::NothingBuffered);
+        return Err(Refusal::NothingBuffered);
     }
-    Answer::Taken(p.buffer.oldest())
+    Ok(Answer::Taken(p.buffer.oldest()))
 }
 
 // The tables that the call writes, as it leaves them.
@@ -44,7 +41,7 @@ pub fn after(p: Plant, worker: i64) -> Left
     ensures shows { Performs (Take worker) p (left p result) }
     ensures form { plant_form p ≡ true → plant_form (left p result) ≡ true }
 {
-    let w = arguments::index(worker, Hands::LIMIT as u8);
+    let w = arguments::index(worker, Hands::LIMIT as u8).unwrap_or(Hands::LIMIT as u8);
     let number = p.buffer.oldest();
     let hand = Hand::holding(number);
     let hands = p.hands.with(w, hand);

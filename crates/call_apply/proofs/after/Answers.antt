@@ -1,22 +1,17 @@
 -- `after` meets its contract.
-use Rattle.call_apply.proofs.Laws.{not-sent, reply_lost, reply_heard, reply_form}
-use borrow.Author.Rules.{rules}
+use Rattle.std.proofs.Common.{rules}
+use Rattle.arguments.proofs.Numbers.{or_number}
+use Rattle.call_apply.proofs.Laws.{not_sent, reply_lost, reply_heard, reply_form}
 use Rattle.call_apply.proofs.after.Goals as goal
 
-pub returns-then-f-eq-UNREACHED-clause-shows : goal.returns-then-f-eq-UNREACHED-clause-shows
-returns-then-f-eq-UNREACHED-clause-shows c = search (not-sent, rules)
+pub returns-in-Arrives-clause-shows : goal.returns-in-Arrives-clause-shows
+returns-in-Arrives-clause-shows c = search (reply_heard, or_number, rules)
 
-pub returns-then-f-eq-UNREACHED-clause-form : goal.returns-then-f-eq-UNREACHED-clause-form
-returns-then-f-eq-UNREACHED-clause-form c = λ f. f
+pub returns-in-Arrives-clause-form : goal.returns-in-Arrives-clause-form
+returns-in-Arrives-clause-form c = search (reply_form, or_number, rules)
 
-pub returns-then-f-ne-ARRIVES-clause-shows : goal.returns-then-f-ne-ARRIVES-clause-shows
-returns-then-f-ne-ARRIVES-clause-shows c = search (reply_lost, rules)
+pub returns-in-Lost-clause-shows : goal.returns-in-Lost-clause-shows
+returns-in-Lost-clause-shows c = search (reply_lost, or_number, rules)
 
-pub returns-then-f-ne-ARRIVES-clause-form : goal.returns-then-f-ne-ARRIVES-clause-form
-returns-then-f-ne-ARRIVES-clause-form c = c.carry-t.ensures.form
-
-pub returns-clause-shows : goal.returns-clause-shows
-returns-clause-shows c = search (reply_heard, rules)
-
-pub returns-clause-form : goal.returns-clause-form
-returns-clause-form c = search (reply_form, rules)
+pub returns-in-Unreached-clause-shows : goal.returns-in-Unreached-clause-shows
+returns-in-Unreached-clause-shows c = search (not_sent, rules)

@@ -1,15 +1,12 @@
 -- `answer` meets its contract.
-use Rattle.call_commit.proofs.Laws.{asks, nothing_changed, full, buffers}
-use Rattle.caller.proofs.Standing.{its_session, turned, stands}
-use Rattle.answers.proofs.Own.{own_refusal}
 use borrow.Author.Rules.{rules}
+use Rattle.answers.proofs.Passing.{passed_on}
+use Rattle.caller.proofs.Standing.{its_session, turned, stands}
+use Rattle.call_commit.proofs.Laws.{asks, nothing_changed, full, buffers}
 use Rattle.call_commit.proofs.answer.Goals as goal
 
-pub returns-then-is_refused-clause-answers : goal.returns-then-is_refused-clause-answers
-returns-then-is_refused-clause-answers c = search (turned asks, rules)
-
-pub returns-then-is_refused-clause-own : goal.returns-then-is_refused-clause-own
-returns-then-is_refused-clause-own c = search (own_refusal, rules)
+pub returns-in_err-s-clause-answers : goal.returns-in_err-s-clause-answers
+returns-in_err-s-clause-answers c = search (passed_on, turned asks, rules)
 
 pub returns-then-is_empty-clause-answers : goal.returns-then-is_empty-clause-answers
 returns-then-is_empty-clause-answers c = search (nothing_changed, stands asks, its_session, rules)

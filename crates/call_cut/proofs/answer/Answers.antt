@@ -1,11 +1,12 @@
 -- `answer` meets its contract.
+use Rattle.std.proofs.Common.{rules, refl}
+use Rattle.arguments.proofs.Numbers.{none_number, some_number, some_lt}
+use Rattle.answers.proofs.Passing.{passed_or}
 use Rattle.call_cut.proofs.Laws.{out_of_range_lem, told}
-use mathlib.Core.Path.{refl}
-use borrow.Author.Rules.{rules}
 use Rattle.call_cut.proofs.answer.Goals as goal
 
-pub returns-then-w-ge-LIMIT-clause-answers : goal.returns-then-w-ge-LIMIT-clause-answers
-returns-then-w-ge-LIMIT-clause-answers c = search (out_of_range_lem, refl, rules)
+pub returns-in_err-ok_or-clause-answers : goal.returns-in_err-ok_or-clause-answers
+returns-in_err-ok_or-clause-answers c = search (passed_or, out_of_range_lem, none_number, refl, rules)
 
 pub returns-clause-answers : goal.returns-clause-answers
-returns-clause-answers c = search (told, refl, rules)
+returns-clause-answers c = search (told, some_number, some_lt, refl, rules)

@@ -1,11 +1,14 @@
 -- `after` meets its contract.
+use Rattle.std.proofs.Common.{rules}
 use Rattle.plant.proofs.Formed.{form_with_store}
-use Rattle.call_load.proofs.Laws.{made}
-use borrow.Author.Rules.{rules}
+use Rattle.call_load.proofs.Laws.{left_alone, made}
 use Rattle.call_load.proofs.after.Goals as goal
 
-pub returns-clause-shows : goal.returns-clause-shows
-returns-clause-shows c = search (made, rules)
+pub returns-in-Some-clause-shows : goal.returns-in-Some-clause-shows
+returns-in-Some-clause-shows c = search (made, rules)
 
-pub returns-clause-form : goal.returns-clause-form
-returns-clause-form c = search (form_with_store, rules)
+pub returns-in-Some-clause-form : goal.returns-in-Some-clause-form
+returns-in-Some-clause-form c = search (form_with_store, rules)
+
+pub returns-in-None-clause-shows : goal.returns-in-None-clause-shows
+returns-in-None-clause-shows c = search (left_alone, rules)

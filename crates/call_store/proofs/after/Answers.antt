@@ -1,7 +1,7 @@
 -- `after` meets its contract.
+use borrow.Author.Rules.{rules}
 use Rattle.plant.proofs.Formed.{form_with_near}
 use Rattle.call_store.proofs.Laws.{marked}
-use borrow.Author.Rules.{rules}
 use Rattle.call_store.proofs.after.Goals as goal
 
 pub returns-clause-shows : goal.returns-clause-shows

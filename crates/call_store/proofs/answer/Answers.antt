@@ -1,11 +1,12 @@
 -- `answer` meets its contract.
+use Rattle.std.proofs.Common.{rules, refl}
+use Rattle.arguments.proofs.Numbers.{none_below, some_below}
+use Rattle.answers.proofs.Passing.{passed_or}
 use Rattle.call_store.proofs.Laws.{out_of_range_lem, done}
-use mathlib.Core.Path.{refl}
-use borrow.Author.Rules.{rules}
 use Rattle.call_store.proofs.answer.Goals as goal
 
-pub returns-then-index-gt-NEAR-clause-answers : goal.returns-then-index-gt-NEAR-clause-answers
-returns-then-index-gt-NEAR-clause-answers c = search (out_of_range_lem, refl, rules)
+pub returns-in_err-ok_or-clause-answers : goal.returns-in_err-ok_or-clause-answers
+returns-in_err-ok_or-clause-answers c = search (passed_or, out_of_range_lem, none_below, refl, rules)
 
 pub returns-clause-answers : goal.returns-clause-answers
-returns-clause-answers c = search (done, refl, rules)
+returns-clause-answers c = search (done, some_below, refl, rules)
