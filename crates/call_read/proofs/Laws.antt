@@ -1,7 +1,8 @@
 -- What read answers, the words it fills and the plant it leaves, one law for each way out.
 use mathlib.Core.Path.{◌≡◌, refl, sym, ◌∙◌, ap, ap₂, subst}
-use mathlib.Core.Bool.{Bool, true, false, true≢false}
-use mathlib.Core.Option.{Option, none, some}
+use mathlib.Core.Bool.{true, false}
+use mathlib.Core.Option as O
+use mathlib.Core.Option.{none, some}
 use mathlib.Core.List.{List, [], ◌∷◌, map}
 use Prim.Native.Nat.{ℕ, ◌<◌, ◌≤◌, ◌*◌}
 use lib.IntN.{ℤ, pos}
@@ -9,16 +10,20 @@ use lib.ListN.{length, length-map}
 use mir.Syntax.{w64}
 use mir.Val.{SFits}
 use borrow.Author.Tests.{not-false, ltb-true, ltb-false, le-leb}
+use Rattle.std.specs.Prelude.{Option, Some, None, Result, Ok, Err}
+use Rattle.std.specs.Option.{ok_or}
+use Rattle.std.specs.Result.{IsErrAnd}
 use Rattle.rules.specs.Limits.{key_count, words_per_field}
 use Rattle.rules.specs.Values as S
-use Rattle.rules.specs.Refusals.{Refusal, out_of_range, was_doomed, few_words, store_away, first}
+use Rattle.rules.specs.Refusals as R
+use Rattle.rules.specs.Refusals.{out_of_range, was_doomed, few_words, store_away, first}
 use Rattle.rules.specs.Tables as M
 use Rattle.rules.specs.Reading.{seen}
-use Rattle.rules.specs.Calls.{Call, Read, fine, mark_number}
+use Rattle.rules.specs.Calls.{Read, fine, mark_number}
 use Rattle.rules.specs.Calls as C
 use Rattle.rules.specs.Conditions.{conditions}
 use Rattle.rules.specs.Effects.{mark, with_shared, only_at, cache_by, after_read}
-use Rattle.rules.specs.Step.{accepted, settle, step}
+use Rattle.rules.specs.Step.{accepted, step}
 use Rattle.rules.proofs.Laws.{NoneMet, none_met, not_met}
 use Rattle.rules.proofs.Steps.{step-fine}
 use Rattle.rules.proofs.Away.{key_places}
@@ -38,14 +43,15 @@ use Rattle.cache.specs.declared.cached.Cached.{Cached}
 use Rattle.cache.specs.View.{view_cache}
 use Rattle.cache.specs.Form.{cache_form}
 use Rattle.cache.specs.declared.Cache.{Cache}
+use Rattle.store.specs.View.{store_form}
 use Rattle.plant.specs.View.{view_plant, kept_plant, plant_form}
 use Rattle.plant.specs.declared.Plant.{Plant}
 use Rattle.plant.proofs.PlantLaws.{kept_parts}
-use Rattle.plant.proofs.Formed.{form_with_cache, form_with_sessions}
-use Rattle.answers.specs.View.{view_answer, view_mark, answer_by, is_refused}
-use Rattle.answers.specs.declared.Answer.{Answer}
+use Rattle.plant.proofs.Formed.{form_parts, form_with_cache, form_with_sessions}
+use Rattle.answers.specs.View.{view_refusal, view_mark, answer_by}
+use Rattle.answers.specs.declared.Refusal.{Refusal}
 use Rattle.answers.specs.declared.Mark.{Mark}
-use Rattle.promises.specs.Promise.{result, Answers, Performs}
+use Rattle.promises.specs.Promise.{result, Performs}
 use Rattle.promises.proofs.Telling.{none_held, left_accepted}
 use Rattle.call_read_shown.specs.values.Shown.{shown_in}
 use Rattle.sight.specs.Sight.{sight, sight_away, at_hand}
@@ -53,8 +59,8 @@ use Rattle.call_read_shown.specs.Fields.{own_of, by_mark, shown_fields}
 use Rattle.call_read_shown.specs.declared.Marked.{Marked}
 use Rattle.call_read_shown.proofs.Kept.{shown_is, cache_is}
 use Rattle.call_read.specs.Left.{left}
-use Rattle.call_read.specs.Shows.{Shows, words_by, found_answer, found_words, filled_by}
-use Rattle.call_read.proofs.Filled.{refused_unread}
+use Rattle.call_read.specs.declared.Left.{Left}
+use Rattle.call_read.specs.Shows.{Shows, words_by, found_answer, found_words, Found}
 use Rattle.call_read.proofs.Named.{named}
 
 -- ── the tables looked at are the plant's ──
@@ -93,18 +99,10 @@ module _ (p : Plant) (n k : ℕ) where
       go C.cached_now = rw h refl
       go C.own_change = rw h refl
 
--- ── what a refusal, or none, says of the step ──
-told_refused : (o : Option Refusal) (c : Call) (lent : List ℤ) (p : M.Plant) → is_refused (answer_by o []) ≡ true → (answer_by o [] ≡ (settle o c lent p).answer) × (lent ≡ (settle o c lent p).words)
-told_refused none c lent p h = absurd (true≢false (sym h))
-told_refused (some r) c lent p h = (refl, refl)
-
-told_found : (o : Option Refusal) (ns : List ℕ) (fs : List S.Field) (lent : List ℤ) → is_refused (answer_by o []) ≡ true → (answer_by o [] ≡ answer_by o ns) × (lent ≡ words_by o fs lent)
-told_found none ns fs lent h = absurd (true≢false (sym h))
-told_found (some r) ns fs lent h = (refl, refl)
-
-told_none : (o : Option Refusal) → is_refused (answer_by o []) ≡ false → o ≡ none
-told_none none h = refl
-told_none (some r) h = absurd (true≢false h)
+-- ── what `ok_or` says of its refusal ──
+pub named_by : {B : Type 0} (o : Option B) (x y : Refusal) → Err y ≡ ok_or o x → (o ≡ None) × (y ≡ x)
+named_by None x y e = let i : y ≡ x = cc in (refl, i)
+named_by (Some b) x y e = cc
 
 -- ── what no refusal says of the numbers ──
 module _ (p : Plant) (h : kept_plant p ≡ true) (n k : ℕ) (lent : List ℤ) (m : NoneMet (conditions (Read (pos n) (pos k)) lent (view_plant p))) where
@@ -133,93 +131,109 @@ module _ (p : Plant) (h : kept_plant p ≡ true) (n k : ℕ) (lent : List ℤ) (
 
 -- ── the answer and the words ──
 module _ (p : Plant) (z : ℤ) (fz : SFits w64 z) (n : ℕ) (en : n ≡ session_number (held z))
-    (y : ℤ) (fy : SFits w64 y) (k : ℕ) (ek : k ≡ index_number (held y) key_count)
-    (lent : List ℤ) (a : Answer) (ea : view_answer a ≡ answer_by (first (conditions (Read (pos n) (pos k)) lent (sight_away p.near p.keys p.cache p.sessions p.buffer))) [])
-    (r : Bool) (er : r ≡ is_refused (view_answer a)) where
-  as_told : view_answer a ≡ answer_by (first (conditions (Read (pos n) (pos k)) lent (view_plant p))) []
-  as_told = ea ∙ ap (λ l. answer_by (first l) []) (same_conditions p n k lent)
-
-  is_told : is_refused (answer_by (first (conditions (Read (pos n) (pos k)) lent (view_plant p))) []) ≡ r
-  is_told = ap is_refused (sym as_told) ∙ sym er
-
-  -- what is found without the store, at these numbers
-  abbrev met : Option Refusal
-  met = first (conditions (Read (pos n) (pos k)) lent (at_hand p))
-
-  met_is : is_refused (answer_by met []) ≡ r
-  met_is = ap is_refused (sym (ea)) ∙ sym er
-
-  abbrev FoundAt : C.Answer → List ℤ → ℕ → ℕ → Type 0
-  FoundAt b ws i j = (b ≡ answer_by (first (conditions (Read (pos i) (pos j)) lent (at_hand p))) (mark_number (mark i j (at_hand p)) ∷ [])) × (ws ≡ words_by (first (conditions (Read (pos i) (pos j)) lent (at_hand p))) (shown_fields i j (at_hand p)) lent)
-
-  found : (b : C.Answer) (ws : List ℤ) → FoundAt b ws n k → (b ≡ found_answer z y lent (at_hand p)) × (ws ≡ found_words z y lent (at_hand p))
-  unfolding found_answer found_words
-  found b ws h = subst (FoundAt b ws (session_number z)) (indexed_is y fy key_count k ek) (subst (λ i. FoundAt b ws i k) (session_is z fz n en) h)
-
-  -- all that is promised of an answer and the words with it
-  abbrev FoundSo : C.Answer → List ℤ → Type 0
-  FoundSo b ws =
-      (p.near ≡ false → (b ≡ found_answer z y lent (at_hand p)) × (ws ≡ found_words z y lent (at_hand p)))
-      × ((kept_plant p ≡ true → b ≡ (result (Read z y) lent p).answer) × (kept_plant p ≡ true → ws ≡ (result (Read z y) lent p).words))
-
-  module _ (t : r ≡ true) where
-    leaves_words : (fs : List S.Field) → filled_by a fs lent ≡ lent
-    leaves_words fs = rw (refused_unread a (sym er ∙ t)) refl
-
-    turned-found : (fs : List S.Field) → p.near ≡ false → (view_answer a ≡ found_answer z y lent (at_hand p)) × (filled_by a fs lent ≡ found_words z y lent (at_hand p))
-    turned-found fs h = let x = told_found met (mark_number (mark n k (at_hand p)) ∷ []) (shown_fields n k (at_hand p)) lent (met_is ∙ t) in found (view_answer a) (filled_by a fs lent) (ea ∙ x.0, leaves_words fs ∙ x.1)
-
-    turned : (view_answer a ≡ (result (Read (pos n) (pos k)) lent p).answer) × (lent ≡ (result (Read (pos n) (pos k)) lent p).words)
-    unfolding step
-    turned =
-        let s = told_refused (first (conditions (Read (pos n) (pos k)) lent (view_plant p))) (Read (pos n) (pos k)) lent (view_plant p) (is_told ∙ t) in
-        (as_told ∙ s.0, s.1)
-
-    turned_away : Answers (Read z y) lent p a
-    turned_away h = turned.0 ∙ ap (λ (x : C.Result). x.answer) (sym (named p z fz n en y fy k ek h lent))
-
-    none_touched : (fs : List S.Field) → kept_plant p ≡ true → filled_by a fs lent ≡ (result (Read z y) lent p).words
-    none_touched fs h = leaves_words fs ∙ turned.1 ∙ ap (λ (x : C.Result). x.words) (sym (named p z fz n en y fy k ek h lent))
-
-    pub turned_so : (fs : List S.Field) → FoundSo (view_answer a) (filled_by a fs lent)
-    turned_so fs = (turned-found fs, (turned_away, none_touched fs))
-
-  module _ (t : r ≡ false) where
-    shown_found : (m : Mark) → view_mark m ≡ mark n k (looked p n k) → (c : Cached) → view_cached c ≡ record { key = k; fields = shown_fields n k (looked p n k) } → p.near ≡ false
-        → (fine (mark_number (view_mark m) ∷ []) ≡ found_answer z y lent (at_hand p)) × (shown_in (view_cached c).fields lent ≡ found_words z y lent (at_hand p))
-    shown_found m em c ec h =
-        let none : met ≡ none = told_none met (met_is ∙ t) in
-        found (fine (mark_number (view_mark m) ∷ [])) (shown_in (view_cached c).fields lent) (rw none (ap (λ (x : C.Mark). fine (mark_number x ∷ [])) (em ∙ away_mark p n k)), rw none (ap (λ fs. shown_in fs lent) (ap (λ (x : M.Cached). x.fields) ec ∙ away_fields p n k h)))
-
-    none_meets : NoneMet (conditions (Read (pos n) (pos k)) lent (view_plant p))
-    none_meets = none_met (conditions (Read (pos n) (pos k)) lent (view_plant p)) (told_none (first (conditions (Read (pos n) (pos k)) lent (view_plant p))) (is_told ∙ t))
-
-    reads : kept_plant p ≡ true → accepted (Read (pos n) (pos k)) lent (view_plant p) ≡ result (Read z y) lent p
-    reads h = sym (named p z fz n en y fy k ek h lent ∙ step-fine (Read (pos n) (pos k)) lent (view_plant p) none_meets)
-
-    marked : (m : Mark) → view_mark m ≡ mark n k (looked p n k) → kept_plant p ≡ true → fine (mark_number (view_mark m) ∷ []) ≡ (result (Read z y) lent p).answer
-    unfolding accepted
-    marked m e h = ap (λ (x : C.Mark). fine (mark_number x ∷ [])) (e ∙ same_mark p n k) ∙ ap (λ (x : C.Result). x.answer) (reads h)
-
-    shown_filled : (c : Cached) → view_cached c ≡ record { key = k; fields = shown_fields n k (looked p n k) } → kept_plant p ≡ true → shown_in (view_cached c).fields lent ≡ (result (Read z y) lent p).words
-    shown_filled c e h = words_are p h n k lent none_meets (view_cached c).fields (ap (λ (x : M.Cached). x.fields) e ∙ same_fields p n k) ∙ ap (λ (x : C.Result). x.words) (reads h)
-
-    pub shown_all : (m : Marked) → view_mark m.mark ≡ mark n k (looked p n k) → view_cached m.fields ≡ record { key = k; fields = shown_fields n k (looked p n k) } → FoundSo (fine (mark_number (view_mark m.mark) ∷ [])) (shown_in (view_cached m.fields).fields lent)
-    shown_all m em ec = (shown_found m.mark em m.fields ec, (marked m.mark em, shown_filled m.fields ec))
-
--- ── what it shows ──
-module _ (p : Plant) (z : ℤ) (fz : SFits w64 z) (n : ℕ) (en : n ≡ session_number (held z))
     (y : ℤ) (fy : SFits w64 y) (k : ℕ) (ek : k ≡ index_number (held y) key_count) where
+  it : k ≡ index_number y key_count
+  it = indexed_is y fy key_count k ek
+
+  -- what is met by what is found without the store, at these numbers
+  abbrev met : List ℤ → O.Option R.Refusal
+  met lent = first (conditions (Read (pos n) (pos k)) lent (at_hand p))
+
+  module _ (lent : List ℤ) where
+    abbrev FoundAt : C.Answer → List ℤ → ℕ → ℕ → Type 0
+    FoundAt b ws i j = (b ≡ answer_by (first (conditions (Read (pos i) (pos j)) lent (at_hand p))) (mark_number (mark i j (at_hand p)) ∷ [])) × (ws ≡ words_by (first (conditions (Read (pos i) (pos j)) lent (at_hand p))) (shown_fields i j (at_hand p)) lent)
+
+    found : (b : C.Answer) (ws : List ℤ) → FoundAt b ws n k → (b ≡ found_answer z y lent (at_hand p)) × (ws ≡ found_words z y lent (at_hand p))
+    unfolding found_answer found_words
+    found b ws h = subst (FoundAt b ws (session_number z)) it (subst (λ i. FoundAt b ws i k) (session_is z fz n en) h)
+
+    told : first (conditions (Read (pos n) (pos k)) lent (view_plant p)) ≡ met lent
+    told = ap first (sym (same_conditions p n k lent))
+
+    -- all that is promised of an answer and the words with it
+    abbrev FoundSo : C.Answer → List ℤ → Type 0
+    FoundSo b ws =
+        (p.near ≡ false → (b ≡ found_answer z y lent (at_hand p)) × (ws ≡ found_words z y lent (at_hand p)))
+        × ((kept_plant p ≡ true → b ≡ (result (Read z y) lent p).answer) × (kept_plant p ≡ true → ws ≡ (result (Read z y) lent p).words))
+
+    module _ (r : R.Refusal) (t : some r ≡ met lent) where
+      turned : result (Read (pos n) (pos k)) lent p ≡ record { answer = C.refused r; words = lent; plant = (result (Read (pos n) (pos k)) lent p).plant }
+      unfolding step
+      turned = rw (told ∙ sym t) refl
+
+      turned_so : FoundSo (C.refused r) lent
+      turned_so = (
+        λ h. found (C.refused r) lent (rw (sym t) refl, rw (sym t) refl),
+        (
+          λ h. sym (ap (λ (x : C.Result). x.answer) (named p z fz n en y fy k ek h lent ∙ turned)),
+          λ h. sym (ap (λ (x : C.Result). x.words) (named p z fz n en y fy k ek h lent ∙ turned)),
+        ),
+      )
+
+    module _ (t : none ≡ met lent) where
+      shown_found : (m : Mark) → view_mark m ≡ mark n k (looked p n k) → (c : Cached) → view_cached c ≡ record { key = k; fields = shown_fields n k (looked p n k) } → p.near ≡ false
+          → (fine (mark_number (view_mark m) ∷ []) ≡ found_answer z y lent (at_hand p)) × (shown_in (view_cached c).fields lent ≡ found_words z y lent (at_hand p))
+      shown_found m em c ec h =
+          found (fine (mark_number (view_mark m) ∷ [])) (shown_in (view_cached c).fields lent) (rw (sym t) (ap (λ (x : C.Mark). fine (mark_number x ∷ [])) (em ∙ away_mark p n k)), rw (sym t) (ap (λ fs. shown_in fs lent) (ap (λ (x : M.Cached). x.fields) ec ∙ away_fields p n k h)))
+
+      none_meets : NoneMet (conditions (Read (pos n) (pos k)) lent (view_plant p))
+      none_meets = none_met (conditions (Read (pos n) (pos k)) lent (view_plant p)) (told ∙ sym t)
+
+      reads : kept_plant p ≡ true → accepted (Read (pos n) (pos k)) lent (view_plant p) ≡ result (Read z y) lent p
+      reads h = sym (named p z fz n en y fy k ek h lent ∙ step-fine (Read (pos n) (pos k)) lent (view_plant p) none_meets)
+
+      marked : (m : Mark) → view_mark m ≡ mark n k (looked p n k) → kept_plant p ≡ true → fine (mark_number (view_mark m) ∷ []) ≡ (result (Read z y) lent p).answer
+      unfolding accepted
+      marked m e h = ap (λ (x : C.Mark). fine (mark_number x ∷ [])) (e ∙ same_mark p n k) ∙ ap (λ (x : C.Result). x.answer) (reads h)
+
+      shown_filled : (c : Cached) → view_cached c ≡ record { key = k; fields = shown_fields n k (looked p n k) } → kept_plant p ≡ true → shown_in (view_cached c).fields lent ≡ (result (Read z y) lent p).words
+      shown_filled c e h = words_are p h n k lent none_meets (view_cached c).fields (ap (λ (x : M.Cached). x.fields) e ∙ same_fields p n k) ∙ ap (λ (x : C.Result). x.words) (reads h)
+
+      shown_all : (m : Marked) → view_mark m.mark ≡ mark n k (looked p n k) → view_cached m.fields ≡ record { key = k; fields = shown_fields n k (looked p n k) } → FoundSo (fine (mark_number (view_mark m.mark) ∷ [])) (shown_in (view_cached m.fields).fields lent)
+      shown_all m em ec = (shown_found m.mark em m.fields ec, (marked m.mark em, shown_filled m.fields ec))
+
+  -- ── what it shows ──
   pub shown_so : (m : Marked) → view_mark m.mark ≡ mark n k (looked p n k) → view_cached m.fields ≡ record { key = k; fields = shown_fields n k (looked p n k) } → Shows z y p m
-  shown_so m em ef = (em ∙ same_mark p n k ∙ ap₂ (λ a b. mark a b (view_plant p)) (session_is z fz n en) (indexed_is y fy key_count k ek), ef ∙ ap (λ fs. record { key = k; fields = fs }) (same_fields p n k) ∙ ap₂ (λ a b. record { key = b; fields = shown_fields a b (view_plant p) }) (session_is z fz n en) (indexed_is y fy key_count k ek))
+  shown_so m em ef = (em ∙ same_mark p n k ∙ ap₂ (λ a b. mark a b (view_plant p)) (session_is z fz n en) it, ef ∙ ap (λ fs. record { key = k; fields = fs }) (same_fields p n k) ∙ ap₂ (λ a b. record { key = b; fields = shown_fields a b (view_plant p) }) (session_is z fz n en) it)
 
   caches_so : (m : Marked) → Shows z y p m → cache_by (view_mark m.mark) (view_cached m.fields) (view_cache p.cache) ≡ cache_by (mark n k (view_plant p)) (record { key = k; fields = shown_fields n k (view_plant p) }) (view_cache p.cache)
   caches_so m s =
       ap₂ (λ x c. cache_by x c (view_cache p.cache))
-      (s.0 ∙ sym (ap₂ (λ a b. mark a b (view_plant p)) (session_is z fz n en) (indexed_is y fy key_count k ek)))
-      (s.1 ∙ sym (ap₂ (λ a b. record { key = b; fields = shown_fields a b (view_plant p) }) (session_is z fz n en) (indexed_is y fy key_count k ek)))
+      (s.0 ∙ sym (ap₂ (λ a b. mark a b (view_plant p)) (session_is z fz n en) it))
+      (s.1 ∙ sym (ap₂ (λ a b. record { key = b; fields = shown_fields a b (view_plant p) }) (session_is z fz n en) it))
+
+  -- ── what is found, by what is met ──
+  module _ (lent : ℕ) where
+    -- a refusal that is passed on by `?`
+    pub found_turned : (o : Result Marked Refusal) (r : Refusal) → IsErrAnd o (λ x. x ≡ r) → ((words : List ℤ) → lent ≡ length words → some (view_refusal r) ≡ met words) → Found z y p lent o
+    found_turned (Ok m) r e t = absurd e
+    found_turned (Err x) r e t =
+        let so : (words : List ℤ) → length words ≡ lent → FoundSo words (C.refused (view_refusal x)) words = λ words l. turned_so words (view_refusal x) (ap (λ q. some (view_refusal q)) e ∙ t words (sym l)) in
+        record {
+          away = λ h words l. (so words l).0 h;
+          answers = λ words l. (so words l).1.0;
+          fills = λ words l. (so words l).1.1;
+          own = refl;
+          shows = tt;
+          form = λ f. tt;
+        }
+
+    pub found_shown : (m : Marked) → ((words : List ℤ) → lent ≡ length words → none ≡ met words) → view_mark m.mark ≡ mark n k (looked p n k) → view_cached m.fields ≡ record { key = k; fields = shown_fields n k (looked p n k) } → (store_form p.store ≡ true → cache_form p.cache ≡ true → cached_form m.fields ≡ true) → Found z y p lent (Ok m)
+    found_shown m t em ec f =
+        let so : (words : List ℤ) → length words ≡ lent → FoundSo words (fine (mark_number (view_mark m.mark) ∷ [])) (shown_in (view_cached m.fields).fields words) = λ words l. shown_all words (t words (sym l)) m em ec in
+        record {
+          away = λ h words l. (so words l).0 h;
+          answers = λ words l. (so words l).1.0;
+          fills = λ words l. (so words l).1.1;
+          own = refl;
+          shows = shown_so m em ec;
+          form = λ h. let x = form_parts p h in f x.store x.cache;
+        }
 
 -- ── the plant left ──
+pub leaves_form : (p : Plant) (r : Left) → (cache_form p.cache ≡ true → cache_form r.cache ≡ true) → (sessions_form p.sessions ≡ true → sessions_form r.sessions ≡ true) → plant_form p ≡ true → plant_form (left p r) ≡ true
+leaves_form p r fc fs f = form_with_sessions _ r.sessions fs (form_with_cache p r.cache fc f)
+
 module _ (p : Plant) (z : ℤ) (fz : SFits w64 z) (y : ℤ) (fy : SFits w64 y)
     (n : ℕ) (en : n ≡ session_number (held z)) (k : ℕ) (ek : k ≡ index_number (held y) key_count)
     (m : Marked) (c : Cache) (ec : view_cache c ≡ cache_by (view_mark m.mark) (view_cached m.fields) (view_cache p.cache)) (key : Key) (eq : view_key key ≡ view_keys p.keys k)
@@ -242,7 +256,3 @@ module _ (p : Plant) (z : ℤ) (fz : SFits w64 z) (y : ℤ) (fy : SFits w64 y)
       rw (ec ∙ caches_so p z fz n en y fy k ek m shows ∙ cache_are p h n k lent none, shared_is h (in_range_lem p h n k lent none) (is_live p h n k lent none)) refl
       ∙ left_accepted (Read (pos n) (pos k)) lent (view_plant p) none
       ∙ ap (λ (x : C.Result). x.plant) (sym e)
-
-  pub leaves_form : (cached_form m.fields ≡ true → cache_form p.cache ≡ true → cache_form c ≡ true) → (sessions_form p.sessions ≡ true → sessions_form s ≡ true) → cached_form m.fields ≡ true → plant_form p ≡ true → plant_form with_read ≡ true
-  leaves_form fc fs g f =
-      form_with_sessions _ s fs (form_with_cache p c (fc g) f)

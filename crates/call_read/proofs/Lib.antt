@@ -1,4 +1,3 @@
 -- Laws of read.
 mod Named
-pub mod Filled
 mod Laws

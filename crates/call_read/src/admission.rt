@@ -11,10 +11,10 @@ ghost use Rattle.cache.specs.View.{view_cache};
 ghost use Rattle.rules.specs.Refusals.{first};
 ghost use Rattle.rules.specs.Calls.{Read};
 ghost use Rattle.rules.specs.Conditions.{conditions};
-ghost use Rattle.answers.specs.View.{view_answer, answer_by};
+ghost use Rattle.answers.specs.View.{refusal_met};
 ghost use Rattle.sight.specs.Sight.{sight_away};
 
-use answers::{Answer, Refusal};
+use answers::Refusal;
 use buffer::Buffer;
 use cache::Cache;
 use changes::Changes;
@@ -26,36 +26,22 @@ use sessions::Sessions;
 pub fn hindered(sessions: Sessions, n: u32, key: Key) -> bool
     ensures { result ≡ any (λ q. others_exclusive n q.document (view_sessions sessions)) (view_key key) }
 {
-    let end = key.len();
-    let mut i: u8 = 0;
-    while i < end {
-        let q = key.place(i);
-        if sessions.others_exclusive(n, q.document) {
-            return true;
-        }
-        i += 1;
-    }
-    false
+    lists::used(&key.places, key.count)
+        .iter()
+        .any(|q| sessions.others_exclusive(n, q.document))
 }
 
 // One of them cannot be found without the store.
 pub fn unknown_away(keys: Keys, cache: Cache, buffer: Buffer, own: Changes, key: Key) -> bool
     ensures { result ≡ any (λ q. not (known_away (view_keys keys) (view_cache cache) (view_buffer buffer) (view_changes own) q)) (view_key key) }
 {
-    let n = key.len();
-    let mut i: u8 = 0;
-    while i < n {
-        let q = key.place(i);
-        if !sight::known_away(keys, cache, buffer, own, q) {
-            return true;
-        }
-        i += 1;
-    }
-    false
+    lists::used(&key.places, key.count)
+        .iter()
+        .any(|q| !sight::known_away(keys, cache, buffer, own, *q))
 }
 
-// The refusal, in the paper's order 1, 2, 3, 9, 22, 4, 20, or `Done` where there is none.
-pub fn refusal(
+// Admitted, or the refusal, in the paper's order 1, 2, 3, 9, 22, 4, 20.
+pub fn admitted(
     near: bool,
     keys: Keys,
     cache: Cache,
@@ -64,33 +50,25 @@ pub fn refusal(
     n: u32,
     k: u8,
     lent: usize,
-) -> Answer
-    ensures { (words : List ℤ) → lent ≡ length words → view_answer result ≡ answer_by (first (conditions (Read (pos n) (pos k)) words (sight_away near keys cache sessions buffer))) [] }
+) -> Result<(), Refusal>
+    ensures { (words : List ℤ) → lent ≡ length words → refusal_met result ≡ first (conditions (Read (pos n) (pos k)) words (sight_away near keys cache sessions buffer)) }
 {
     if Keys::LIMIT <= k as usize {
-        return Answer::Refused(Refusal::OutOfRange);
+        return Err(Refusal::OutOfRange);
     }
-    let who = caller::of(sessions, n);
-    let turned = who.refusal;
-    if turned.is_refused() {
-        return turned;
-    }
-    let s = who.session;
+    let s = caller::of(sessions, n)?;
     let key = keys.key(k);
     if key.is_empty() {
-        return Answer::Refused(Refusal::KeyUndefined);
+        return Err(Refusal::KeyUndefined);
     }
     if lent < Field::WORDS * key.len() as usize {
-        return Answer::Refused(Refusal::FewWords);
+        return Err(Refusal::FewWords);
     }
     if hindered(sessions, n, key) {
-        return Answer::Refused(Refusal::ExclusiveElsewhere);
+        return Err(Refusal::ExclusiveElsewhere);
     }
-    if near {
-        return Answer::Done;
+    if !near && unknown_away(keys, cache, buffer, s.changes, key) {
+        return Err(Refusal::StoreAway);
     }
-    if unknown_away(keys, cache, buffer, s.changes, key) {
-        return Answer::Refused(Refusal::StoreAway);
-    }
-    Answer::Done
+    Ok(())
 }

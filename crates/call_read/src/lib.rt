@@ -11,7 +11,7 @@ ghost use Rattle.promises.specs.Promise.{Performs};
 ghost use Rattle.call_read.specs.Left.{left};
 ghost use Rattle.call_read.specs.Shows.{Shows, filled, shown_by, Found};
 
-use answers::Answer;
+use answers::Refusal;
 use cache::Cache;
 use call_read_shown::{Marked, values};
 use field::Field;
@@ -19,32 +19,8 @@ use keys::Keys;
 use plant::Plant;
 use sessions::Sessions;
 
-// What a read answers, and what it shows where it is not refused.
-#[derive(Clone, Copy)]
-pub struct Seen {
-    pub answer: Answer,
-    pub shown: Marked,
-}
-
-impl Seen {
-    // Fills the words, where there are enough: of an answered read with its fields, else with nothing. It gives how many that takes.
-    pub fn fill(self, words: &mut [i32]) -> usize
-        ensures fills { words.new ≡ filled self words.old }
-        ensures counts { result ≡ shown_by self }
-    {
-        let answer = self.answer;
-        let shown = self.shown;
-        let fields = shown.fields;
-        if let Answer::Read(_) = answer {
-            values::write(fields, words);
-            return Field::WORDS * values::len(fields);
-        }
-        0
-    }
-}
-
-// What a read finds where so many words are lent.
-pub fn found(p: Plant, session: i64, key: i64, lent: usize) -> Seen
+// What a read shows where so many words are lent, or the refusal that it meets.
+pub fn found(p: Plant, session: i64, key: i64, lent: usize) -> Result<Marked, Refusal>
     ensures { Found session key p lent result }
 {
     let store = p.store;
@@ -54,19 +30,23 @@ pub fn found(p: Plant, session: i64, key: i64, lent: usize) -> Seen
     let buffer = p.buffer;
     let rows = p.rows;
     let n = arguments::session(session);
-    let k = arguments::index(key, Keys::LIMIT as u8);
-    let refusal = admission::refusal(p.near, keys, cache, sessions, buffer, n, k, lent);
-    if refusal.is_refused() {
-        let shown = Marked::nothing();
-        return Seen {
-            answer: refusal,
-            shown,
-        };
+    let k = arguments::index(key, Keys::LIMIT as u8).ok_or(Refusal::OutOfRange)?;
+    admission::admitted(p.near, keys, cache, sessions, buffer, n, k, lent)?;
+    Ok(call_read_shown::shown(p.near, store, keys, cache, sessions, buffer, rows, n, k))
+}
+
+// Fills the words, where there are enough: with the fields that a read shows, or with nothing where it is refused. It gives how many that takes.
+pub fn fill(found: Result<Marked, Refusal>, words: &mut [i32]) -> usize
+    ensures fills { words.new ≡ filled found words.old }
+    ensures counts { result ≡ shown_by found }
+{
+    match found {
+        Ok(shown) => {
+            values::write(shown.fields, words);
+            Field::WORDS * values::len(shown.fields)
+        }
+        Err(_) => 0,
     }
-    let shown = call_read_shown::shown(p.near, store, keys, cache, sessions, buffer, rows, n, k);
-    let mark = shown.mark;
-    let answer = Answer::Read(mark);
-    Seen { answer, shown }
 }
 
 // The tables that the call writes, as it leaves them.
@@ -84,7 +64,7 @@ pub fn after(p: Plant, session: i64, key: i64, shown: Marked) -> Left
     let cached = p.cache;
     let old = p.sessions;
     let n = arguments::session(session);
-    let k = arguments::index(key, Keys::LIMIT as u8);
+    let k = arguments::index(key, Keys::LIMIT as u8).unwrap_or(Keys::LIMIT as u8);
     let cache = call_read_shown::cached(cached, shown);
     let sessions = old.shared(n, keys.key(k), p.clock);
     Left { cache, sessions }

@@ -1,6 +1,7 @@
 -- What a read shows and caches: one law for each way out of a function.
 use mathlib.Core.Path.{◌≡◌, refl, sym, ◌∙◌, ap, ap₂}
 use mathlib.Core.Bool.{Bool, true, false}
+use mathlib.Core.Logic.{◌⊎◌, inl, inr}
 use mathlib.Core.List.{List, [], ◌∷◌, map}
 use Prim.Native.Nat.{ℕ, ◌≤◌, ◌<◌}
 use lib.Dec.{eqb}
@@ -8,8 +9,7 @@ use borrow.Author.Tests.{le-leb, lt-leb, eqb-true}
 use lib.ListN.{drop, length}
 use Rattle.rules.specs.Limits.{cache_limit}
 use Rattle.rules.specs.Lists.{pushed}
-use Rattle.rules.specs.Values as S
-use Rattle.rules.specs.Changes.{Update, follow}
+use Rattle.rules.specs.Changes.{follow}
 use Rattle.rules.specs.Tables as M
 use Rattle.rules.specs.Tables.{pending, changes_in}
 use Rattle.rules.specs.Reading.{seen_away}
@@ -38,20 +38,9 @@ use Rattle.rows.specs.declared.Rows.{Rows}
 use Rattle.buffer.specs.View.{view_buffer}
 use Rattle.buffer.specs.declared.Buffer.{Buffer}
 use Rattle.call_read_shown.specs.values.Shown.{cached_at}
-use Rattle.sight.specs.Value.{value_by, value}
+use Rattle.sight.specs.Value.{value}
 use Rattle.sight.specs.Sight.{sight}
 use Rattle.call_read_shown.specs.Fields.{worked_fields, by_mark, shown_fields}
-
--- ── worked out ──
-module _ (near : Bool) (store : S.Stock) (keys : ℕ → List S.Place) (cache : List M.Cached) (buffer : List M.Batch) (rows : List ℕ) (own : List Update) (qs : List S.Place) (k : ℕ) where
-  pub worked_near : (t r : Cached) → near ≡ true → (view_cached t).fields ≡ map store qs
-      → ((s : S.Stock) → (view_cached t).fields ≡ map s qs → view_cached r ≡ record { key = k; fields = map (follow (follow s (changes_in (pending rows buffer))) own) qs })
-      → view_cached r ≡ record { key = k; fields = map (value_by near store keys cache buffer rows own) qs }
-  worked_near t r h et e = e store et ∙ rw h refl
-
-  pub worked_away : (r : Cached) → near ≡ false → view_cached r ≡ record { key = k; fields = map (seen_away keys cache buffer own) qs }
-      → view_cached r ≡ record { key = k; fields = map (value_by near store keys cache buffer rows own) qs }
-  worked_away r h e = e ∙ rw h refl
 
 -- the cached key of a number has that number
 at_key : (k : ℕ) (l : List M.Cached) → cached_at k l ≡ record { key = k; fields = (cached_at k l).fields }
@@ -74,30 +63,45 @@ module _ (near : Bool) (store : Store) (keys : Keys) (cache : Cache) (sessions :
   unfolding sight
   marks_own h = rw (own_is, sym ek, sym et, h) refl
 
-  worked_is : (r : Cached) → view_cached r ≡ record { key = k; fields = map (value_by near (view_store store) (view_keys keys) (view_cache cache) (view_buffer buffer) (view_rows rows) (view_changes s.changes)) (view_key key) } → view_cached r ≡ record { key = k; fields = worked_fields n k p }
-  unfolding sight
-  worked_is r e = e ∙ ap₂ (λ own qs. record { key = k; fields = map (value p own) qs }) (sym own_is) ek
+  -- r is what was worked out, w
+  module _ {r w : Cached} (e : r ≡ w) where
+    abbrev Worked : Type 0
+    Worked = view_cached r ≡ record { key = k; fields = worked_fields n k p }
 
-  pub shows_own : (r : Cached) → t ≡ true → view_cached r ≡ record { key = k; fields = map (value_by near (view_store store) (view_keys keys) (view_cache cache) (view_buffer buffer) (view_rows rows) (view_changes s.changes)) (view_key key) } → view_cached r ≡ record { key = k; fields = shown_fields n k p }
+    worked_by : view_cached w ≡ record { key = k; fields = map (value p (view_changes s.changes)) (view_key key) } → Worked
+    unfolding sight
+    worked_by q = ap view_cached e ∙ q ∙ ap₂ (λ own qs. record { key = k; fields = map (value p own) qs }) (sym own_is) ek
+
+    pub worked_near : near ≡ true → view_cached w ≡ record { key = k; fields = map (follow (follow (view_store store) (changes_in (pending (view_rows rows) (view_buffer buffer)))) (view_changes s.changes)) (view_key key) } → Worked
+    unfolding sight
+    worked_near h q = worked_by (rw h q)
+
+    pub worked_away : near ≡ false → view_cached w ≡ record { key = k; fields = map (seen_away (view_keys keys) (view_cache cache) (view_buffer buffer) (view_changes s.changes)) (view_key key) } → Worked
+    unfolding sight
+    worked_away h q = worked_by (rw h q)
+
+  pub shows_own : (r : Cached) → t ≡ true → view_cached r ≡ record { key = k; fields = worked_fields n k p } → view_cached r ≡ record { key = k; fields = shown_fields n k p }
   unfolding shown_fields
-  shows_own r h e = worked_is r e ∙ ap (λ m. record { key = k; fields = by_mark m n k p }) (marks_own h)
+  shows_own r h e = e ∙ ap (λ m. record { key = k; fields = by_mark m n k p }) (marks_own h)
 
-  module _ (h : t ≡ false) (b : Bool) (eb : b ≡ M.is_cached k (view_cache cache)) where
-    pub marks_cached : b ≡ true → C.from_cache ≡ mark n k p
-    unfolding sight
-    marks_cached g = rw (own_is, sym ek, sym et, h, sym eb, g) refl
+  module _ (h : t ≡ false) where
+    module _ (g : M.is_cached k (view_cache cache) ≡ true) where
+      pub marks_cached : C.from_cache ≡ mark n k p
+      unfolding sight
+      marks_cached = rw (own_is, sym ek, sym et, h, g) refl
 
-    pub shows_cached : (r : Cached) → b ≡ true → view_cached r ≡ cached_at k (view_cache cache) → view_cached r ≡ record { key = k; fields = shown_fields n k p }
-    unfolding shown_fields sight
-    shows_cached r g e = e ∙ at_key k (view_cache cache) ∙ rw (own_is, sym ek, sym et, h, sym eb, g) refl
+      pub shows_cached : (r : Cached) → view_cached r ≡ cached_at k (view_cache cache) → view_cached r ≡ record { key = k; fields = shown_fields n k p }
+      unfolding shown_fields sight
+      shows_cached r e = e ∙ at_key k (view_cache cache) ∙ rw (own_is, sym ek, sym et, h, g) refl
 
-    pub marks_now : b ≡ false → C.cached_now ≡ mark n k p
-    unfolding sight
-    marks_now g = rw (own_is, sym ek, sym et, h, sym eb, g) refl
+    module _ (g : M.is_cached k (view_cache cache) ≡ false) where
+      pub marks_now : C.cached_now ≡ mark n k p
+      unfolding sight
+      marks_now = rw (own_is, sym ek, sym et, h, g) refl
 
-    pub shows_now : (r : Cached) → b ≡ false → view_cached r ≡ record { key = k; fields = map (value_by near (view_store store) (view_keys keys) (view_cache cache) (view_buffer buffer) (view_rows rows) (view_changes s.changes)) (view_key key) } → view_cached r ≡ record { key = k; fields = shown_fields n k p }
-    unfolding shown_fields
-    shows_now r g e = worked_is r e ∙ ap (λ m. record { key = k; fields = by_mark m n k p }) (marks_now g)
+      pub shows_now : (r : Cached) → view_cached r ≡ record { key = k; fields = worked_fields n k p } → view_cached r ≡ record { key = k; fields = shown_fields n k p }
+      unfolding shown_fields
+      shows_now r e = e ∙ ap (λ m. record { key = k; fields = by_mark m n k p }) marks_now
 
 -- ── cached, by the mark ──
 module _ (m : Mark) (c : Cached) (cache : Cache) where
@@ -105,11 +109,9 @@ module _ (m : Mark) (c : Cached) (cache : Cache) where
       → view_cache r ≡ cache_by (view_mark m) (view_cached c) (view_cache cache)
   caches_one e room r er q = q ∙ rw (e, er) refl
 
-  pub caches_none : m ≡ variant.FromCache → view_cache cache ≡ cache_by (view_mark m) (view_cached c) (view_cache cache)
-  caches_none e = rw e refl
-
-  pub caches_own : m ≡ variant.OwnChange → view_cache cache ≡ cache_by (view_mark m) (view_cached c) (view_cache cache)
-  caches_own e = rw e refl
+  pub caches_none : (m ≡ variant.FromCache) ⊎ (m ≡ variant.OwnChange) → view_cache cache ≡ cache_by (view_mark m) (view_cached c) (view_cache cache)
+  caches_none (inl e) = rw e refl
+  caches_none (inr e) = rw e refl
 
 -- ── room for one more ──
 module _ (c : Cache) (m : ℕ) (e : m ≡ length (view_cache c)) where

@@ -3,21 +3,15 @@
 
 pub mod values;
 
-ghost use Rattle.std.specs.Prelude.{◌≡◌, true, map};
-ghost use Rattle.rules.specs.Values.{Stock};
+ghost use Rattle.std.specs.Prelude.{◌≡◌, true};
 ghost use Rattle.rules.specs.Effects.{evicted, cache_by};
 ghost use Rattle.rules.specs.Effects as E;
-ghost use Rattle.keys.specs.View.{view_key, view_keys};
-ghost use Rattle.changes.specs.View.{view_changes};
-ghost use Rattle.store.specs.View.{view_store, store_form};
-ghost use Rattle.rows.specs.View.{view_rows};
-ghost use Rattle.buffer.specs.View.{view_buffer};
+ghost use Rattle.store.specs.View.{store_form};
 ghost use Rattle.cache.specs.cached.View.{view_cached};
 ghost use Rattle.cache.specs.cached.Form.{cached_form};
 ghost use Rattle.cache.specs.View.{view_cache};
 ghost use Rattle.cache.specs.Form.{cache_form};
 ghost use Rattle.answers.specs.View.{view_mark};
-ghost use Rattle.sight.specs.Value.{value_by};
 ghost use Rattle.sight.specs.Sight.{sight};
 ghost use Rattle.call_read_shown.specs.Fields.{shown_fields};
 
@@ -25,8 +19,7 @@ use answers::Mark;
 use buffer::Buffer;
 use cache::Cache;
 use cache::cached::Cached;
-use changes::Changes;
-use keys::{Key, Keys};
+use keys::Keys;
 use rows::Rows;
 use sessions::Sessions;
 use store::Store;
@@ -51,39 +44,6 @@ impl Marked {
     }
 }
 
-// The store's fields at the places of the key where it is near: looked up here and not where they are worked out, because a store that is handed
-// on is copied.
-fn stored(near: bool, store: Store, key: Key, k: u8) -> Cached
-    ensures shows { near ≡ true → (view_cached result).fields ≡ map (view_store store) (view_key key) }
-    ensures form { store_form store ≡ true → cached_form result ≡ true }
-{
-    if near {
-        return values::stored(store, key, k);
-    }
-    Cached::of(k)
-}
-
-// The fields of the key's places, worked out from the store's: without these where it is away.
-fn worked(
-    near: bool,
-    stored: Cached,
-    keys: Keys,
-    cache: Cache,
-    buffer: Buffer,
-    rows: Rows,
-    own: Changes,
-    key: Key,
-    k: u8,
-) -> Cached
-    ensures shows { (s : Stock) → (near ≡ true → (view_cached stored).fields ≡ map s (view_key key)) → view_cached result ≡ record { key = k; fields = map (value_by near s (view_keys keys) (view_cache cache) (view_buffer buffer) (view_rows rows) (view_changes own)) (view_key key) } }
-    ensures form { cached_form stored ≡ true → cache_form cache ≡ true → cached_form result ≡ true }
-{
-    if near {
-        return values::near(stored, rows, buffer, own, key, k);
-    }
-    values::away(keys, cache, buffer, own, key, k)
-}
-
 // With a change of the session's own at a place they are worked out, else the cached ones are shown where there are any.
 pub fn shown(
     near: bool,
@@ -105,26 +65,24 @@ pub fn shown(
     let key = keys.key(k);
     let touched = own.touches_any(key);
     if !touched {
-        if cache.has(k) {
-            let fields = values::found(cache, k);
+        if let Some(fields) = values::found(cache, k) {
             return Marked {
                 mark: Mark::FromCache,
                 fields,
             };
         }
     }
-    let stored = stored(near, store, key, k);
-    let fields = worked(near, stored, keys, cache, buffer, rows, own, key, k);
-    if touched {
-        return Marked {
-            mark: Mark::OwnChange,
-            fields,
-        };
-    }
-    Marked {
-        mark: Mark::CachedNow,
-        fields,
-    }
+    let fields = if near {
+        values::near(&store, rows, buffer, own, key, k)
+    } else {
+        values::away(keys, cache, buffer, own, key, k)
+    };
+    let mark = if touched {
+        Mark::OwnChange
+    } else {
+        Mark::CachedNow
+    };
+    Marked { mark, fields }
 }
 
 // Of sixteen cached keys the first, cached longest ago, gives way.
@@ -143,10 +101,8 @@ pub fn cached(cache: Cache, shown: Marked) -> Cache
     ensures shows { view_cache result ≡ cache_by (view_mark shown.mark) (view_cached shown.fields) (view_cache cache) }
     ensures form { cached_form shown.fields ≡ true → cache_form cache ≡ true → cache_form result ≡ true }
 {
-    let mark = shown.mark;
-    match mark {
+    match shown.mark {
         Mark::CachedNow => with_room(cache).push(shown.fields),
-        Mark::FromCache => cache,
-        Mark::OwnChange => cache,
+        Mark::FromCache | Mark::OwnChange => cache,
     }
 }

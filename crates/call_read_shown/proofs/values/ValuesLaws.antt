@@ -5,91 +5,74 @@ use mathlib.Core.List.{List, [], ◌∷◌, ◌++◌, append_assoc, append-nil, 
 use Prim.Native.Nat.{ℕ, ◌+◌, ◌-◌, ◌*◌, ◌≤◌, ◌<◌, min}
 use native.Mathlib.Numerals.{add-one}
 use native.Mathlib.Omega.{arith}
-use lib.Dec.{eqb, ltb, leb}
+use lib.Dec.{leb}
 use lib.IntN.{ℤ}
-use lib.ListN.{length, get_or, take, drop, length-append, length-drop, length-map, drop_of_length-le}
+use lib.ListN.{length, get_or, take, drop, length-append, length-drop, length-map, length-take, drop_of_length-le}
 use lib.Seq.{take_all, take_at, drop_at, drop-drop, take-suc}
-use borrow.Author.Tests.{le-leb, lt-leb, ltb-true, ltb-false}
+use borrow.Author.Tests.{le-leb, lt-leb}
 use borrow.Rule.Slice.PartMut.{put_mid}
 use Rattle.rules.specs.Limits.{place_limit, words_per_field}
 use Rattle.rules.specs.Lists.{pushed}
 use Rattle.rules.specs.Values as S
 use Rattle.rules.specs.Values.{show, show_all}
 use Rattle.rules.specs.Tables as M
-use Rattle.rules.proofs.Laws.{by_case, and_true}
-use Rattle.keys.specs.View.{no_place, view_place, view_key}
+use Rattle.keys.specs.View.{view_place, view_key}
+use Rattle.keys.specs.declared.Place.{Place}
 use Rattle.keys.specs.declared.Key.{Key}
 use Rattle.field.specs.View.{view_field, field_form}
 use Rattle.field.specs.declared.Field.{Field}
 use Rattle.field.proofs.WordLaws.{show-length}
-use Rattle.lists.proofs.Views.{counted-length, counted-few, counted_full, counted-at}
+use Rattle.lists.proofs.Views.{counted-length, counted-at, map_is}
 use Rattle.cache.specs.cached.View.{view_cached, with_field}
-use Rattle.cache.specs.cached.Form.{is_blank_field, cached_form}
+use Rattle.cache.specs.cached.Form.{cached_form}
 use Rattle.cache.specs.declared.cached.Cached.{Cached}
-use Rattle.lists.proofs.Indexed.{at_index}
-use Rattle.lists.proofs.Forms.{form_parts, used_at, unused_at}
-use Rattle.lists.proofs.Walks.{Making, make_start, make_next, make_end}
+use Rattle.lists.specs.Find.{map_from}
+use Rattle.lists.proofs.Iterators.{Placing, place_used, place_next, place_end, counted_taken}
 use Rattle.call_read_shown.specs.values.Shown.{shown_in}
 
--- ── a loop that puts what g makes of each place of a key into a cached key of number k ──
-pub record Filling (g : S.Place → S.Field) (key : Key) (k : ℕ) (t : Cached) (i : ℕ) : Type 0 where
-  pub made : Making g (view_key key) place_limit (view_cached t).fields i
+-- ── a loop that puts a field for each place of a key into a cached key of number k; `met q f` says that f is one for the place q ──
+pub record Filling (met : Place → Field → Type 0) (key : Key) (k : ℕ) (qs : List Place) (t : Cached) (i : ℕ) : Type 0 where
+  pub made : (g : S.Place → S.Field) → ((q : Place) (f : Field) → met q f → view_field f ≡ g (view_place q)) → Placing view_place (λ j. g) place_limit qs (map_from (λ j. g) 0 (view_key key)) (view_cached t).fields i
   pub number : (view_cached t).key ≡ k
+  pub form : ((q : Place) (f : Field) → met q f → field_form f ≡ true) → cached_form t ≡ true
 
-pub few_places : (key : Key) → length key.places ≡ 4 → length (view_key key) ≤ 4
-unfolding view_key
-few_places key l = omega (arith, counted-length view_place key.count key.places 4 l)
-
-module _ {g : S.Place → S.Field} {key : Key} {k : ℕ} where
-  pub fill_start : (t : Cached) → length key.places ≡ 4 → view_cached t ≡ record { key = k; fields = [] } → Filling g key k t 0
-  fill_start t l e =
+module _ {met : Place → Field → Type 0} {key : Key} {k : ℕ} {qs : List Place} {t : Cached} where
+  pub fill_start : length key.places ≡ 4 → qs ≡ take key.count key.places → view_cached t ≡ record { key = k; fields = [] } → cached_form t ≡ true → Filling met key k qs t 0
+  unfolding view_key
+  fill_start l u e f =
       record {
-        made = make_start (few_places key l) (ap (λ (x : M.Cached). x.fields) e);
+        made = λ g m. place_used key.count key.places l u (ap (λ (x : M.Cached). x.fields) e);
         number = ap (λ (x : M.Cached). x.key) e;
+        form = λ m. f;
       }
 
-  module _ {t : Cached} {i : ℕ} (n : ℕ) (inv : Filling g key k t i) (e : n ≡ length (view_key key)) where
-    pub fill_next : (r : Cached) (q : S.Place) (f : S.Field) → i < n → q ≡ get_or (view_key key) i no_place → view_cached r ≡ with_field f (view_cached t) → f ≡ g q → Filling g key k r (i + 1)
+  module _ {i : ℕ} (inv : Filling met key k qs t i) where
+    pub fill_next : {r : Cached} {f : Field} (d : Place) → i < length qs → met (get_or qs i d) f → view_cached r ≡ with_field (view_field f) (view_cached t) → (field_form f ≡ true → cached_form t ≡ true → cached_form r ≡ true) → Filling met key k qs r (i + 1)
     unfolding with_field
-    fill_next r q f h a b v =
+    fill_next {f = f} d h m e o =
         record {
-          made = make_next inv.made e no_place q h a (ap (λ (x : M.Cached). x.fields) b ∙ ap (pushed place_limit (view_cached t).fields) v);
-          number = ap (λ (x : M.Cached). x.key) b ∙ inv.number;
+          made = λ g w. place_next (inv.made g w) d h (ap (λ (x : M.Cached). x.fields) e ∙ ap (pushed place_limit (view_cached t).fields) (w (get_or qs i d) f m));
+          number = ap (λ (x : M.Cached). x.key) e ∙ inv.number;
+          form = λ w. o (w (get_or qs i d) f m) (inv.form w);
         }
 
-    pub fill_end : n ≤ i → view_cached t ≡ record { key = k; fields = map g (view_key key) }
-    fill_end h = λ j. record { key = inv.number j; fields = make_end inv.made e h j }
+    pub fill_end : length qs ≤ i → (g : S.Place → S.Field) → ((q : Place) (f : Field) → met q f → view_field f ≡ g (view_place q)) → view_cached t ≡ record { key = k; fields = map g (view_key key) }
+    fill_end h g w = λ j. record { key = inv.number j; fields = (place_end (inv.made g w) h ∙ sym (map_is g 0 (view_key key))) j }
 
 -- ── the number of fields ──
-module _ (c : Cached) (l : length c.fields ≡ 4) where
-  pub len_over : 4 ≤ c.count → 4 ≡ length (view_cached c).fields
-  unfolding view_cached
-  len_over h = counted_full view_field c.count c.fields 4 l h
+pub len_used : (c : Cached) {ys : List Field} → ys ≡ take c.count c.fields → length ys ≡ length (view_cached c).fields
+unfolding view_cached
+len_used c u = rw (u, counted_taken view_field c.count c.fields) (sym (length-map (take c.count c.fields) view_field))
 
-  pub len_few : c.count < 4 → c.count ≡ length (view_cached c).fields
-  unfolding view_cached
-  len_few h = counted-few view_field c.count c.fields 4 l h
+module _ (c : Cached) (l : length c.fields ≡ 4) where
+  pub len_few : {ys : List Field} → ys ≡ take c.count c.fields → length ys ≤ place_limit
+  len_few u = rw (u, length-take c.count c.fields) (omega (arith, l))
 
   field_at_lem : (i : ℕ) (d : Field) → i < length (view_cached c).fields → view_field (get_or c.fields i d) ≡ get_or (view_cached c).fields i S.absent
   unfolding view_cached
   field_at_lem i d h =
       let m : length (view_cached c).fields ≡ min c.count 4 = counted-length view_field c.count c.fields 4 l in
       counted-at view_field c.count c.fields d S.absent i (omega arith) (omega arith)
-
--- ── the field at a place of a key, in a cached key that has a stock's fields there ──
-pub stored_at : (c : Cached) (key : Key) (n i : ℕ) (d : Field) → n ≡ length (view_key key) → i < n → length c.fields ≡ 4 → (s : S.Stock) → (view_cached c).fields ≡ map s (view_key key) → (q : S.Place) → q ≡ get_or (view_key key) i no_place → view_field (get_or c.fields i d) ≡ s q
-stored_at c key n i d e h l s v q a =
-    field_at_lem c l i d (rw (v, length-map (view_key key) s) (omega arith))
-    ∙ ap (λ (fs : List S.Field). get_or fs i S.absent) v ∙ sym (at_index s S.absent (view_key key) i no_place (omega arith)) ∙ ap s (sym a)
-
--- in form, used or not
-pub any_form : (c : Cached) (i : ℕ) (d : Field) → i < 4 → cached_form c ≡ true → field_form (get_or c.fields i d) ≡ true
-unfolding cached_form is_blank_field
-any_form c i d h f =
-    let l = (form_parts 4 field_form is_blank_field c.count c.fields f).long in
-    by_case (ltb i c.count)
-    (λ t. used_at 4 field_form is_blank_field c.count c.fields i d (ltb-true i c.count t) f)
-    (λ t. (and_true (eqb (get_or c.fields i d).kind 0) (field_form (get_or c.fields i d)) (unused_at 4 field_form is_blank_field c.count c.fields i d (ltb-false i c.count t) (omega arith) f)).1)
 
 -- ── a loop that shows the fields fs, eight words for each, at the front of v ──
 pub record Showing (fs : List S.Field) (v vs : List ℤ) (i : ℕ) : Type 0 where

@@ -1,20 +1,13 @@
 -- `hindered` meets its contract.
 use borrow.Author.Rules.{rules}
-use mathlib.Core.Path.{sym, ◌∙◌}
-use Rattle.keys.specs.View.{view_place}
-use Rattle.lists.proofs.Walks.{ask_start, ask_hit, ask_next, ask_end}
+use borrow.Author.Tests.{tests}
+use Rattle.rules.specs.Values as S
+use Rattle.rules.specs.Tables.{others_exclusive}
+use Rattle.keys.specs.View.{view_place, view_key}
+use Rattle.sessions.specs.View.{view_sessions}
+use Rattle.lists.proofs.Iterators.{shown_used, shown_any}
 use Rattle.call_read.proofs.admission.hindered.Goals as goal
 
-pub loop-i-init : goal.loop-i-init
-loop-i-init c = ask_start
-
-pub returns-then-others_exclusive : goal.returns-then-others_exclusive
-unfolding view_place
-returns-then-others_exclusive c = ask_hit c.loop-i.invariant c.len-end.ensures _ _ (search rules) c.place-q.ensures (sym c.others_exclusive.ensures ∙ c.if-others_exclusive.true)
-
-pub loop-i-preserved : goal.loop-i-preserved
-unfolding view_place
-loop-i-preserved c = ask_next c.loop-i.invariant c.len-end.ensures _ _ (search rules) c.place-q.ensures (sym c.others_exclusive.ensures ∙ c.if-others_exclusive.false)
-
 pub returns : goal.returns
-returns c = ask_end c.loop-i.invariant c.len-end.ensures (search rules)
+unfolding view_place view_key
+returns c = shown_any (λ (q : S.Place). others_exclusive c.args.n q.document (view_sessions c.args.sessions)) c.any.ensures.ran (shown_used _ _ c.iter.ensures.rest c.used.ensures) (λ x b f k. search (rules, tests))

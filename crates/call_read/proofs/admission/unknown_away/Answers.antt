@@ -1,18 +1,18 @@
 -- `unknown_away` meets its contract.
 use borrow.Author.Rules.{rules}
-use mathlib.Core.Path.{sym, ◌∙◌, ap}
+use borrow.Author.Tests.{tests}
 use mathlib.Core.Bool.{not}
-use Rattle.lists.proofs.Walks.{ask_start, ask_hit, ask_next, ask_end}
+use Rattle.rules.specs.Values as S
+use Rattle.rules.specs.Reading.{known_away}
+use Rattle.keys.specs.View.{view_key, view_keys}
+use Rattle.changes.specs.View.{view_changes}
+use Rattle.buffer.specs.View.{view_buffer}
+use Rattle.cache.specs.View.{view_cache}
+use Rattle.lists.proofs.Iterators.{shown_used, shown_any}
 use Rattle.call_read.proofs.admission.unknown_away.Goals as goal
 
-pub loop-i-init : goal.loop-i-init
-loop-i-init c = ask_start
-
-pub returns-then-not-known_away : goal.returns-then-not-known_away
-returns-then-not-known_away c = ask_hit c.loop-i.invariant c.len-n.ensures _ _ (search rules) c.place-q.ensures (ap not (sym c.known_away.ensures ∙ c.if-not-known_away.true))
-
-pub loop-i-preserved : goal.loop-i-preserved
-loop-i-preserved c = ask_next c.loop-i.invariant c.len-n.ensures _ _ (search rules) c.place-q.ensures (ap not (sym c.known_away.ensures ∙ c.if-not-known_away.false))
-
 pub returns : goal.returns
-returns c = ask_end c.loop-i.invariant c.len-n.ensures (search rules)
+unfolding view_key
+returns c =
+    let a = c.args in
+    shown_any (λ (q : S.Place). not (known_away (view_keys a.keys) (view_cache a.cache) (view_buffer a.buffer) (view_changes a.own) q)) c.any.ensures.ran (shown_used _ _ c.iter.ensures.rest c.used.ensures) (λ x b f k. search (rules, tests))

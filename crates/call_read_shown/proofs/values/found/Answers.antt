@@ -1,35 +1,40 @@
 -- `found` meets its contract.
 use borrow.Author.Rules.{rules}
-use mathlib.Core.Path.{refl}
-use borrow.Author.Tests.{eq-eqb, ne_eqb}
-use Rattle.lists.proofs.Loops.{length_mapped}
-use Rattle.lists.proofs.Views.{seek_start, seek_hit, seek_next, seek_end, seek_past}
+use borrow.Author.Tests.{tests}
+use mathlib.Core.Path.{◌≡◌, refl, sym}
+use mathlib.Core.Bool.{true, false}
+use mathlib.Core.List.{[]}
+use lib.Dec.{eqb}
+use denote.Ref.{Bor}
+use Rattle.std.specs.Prelude.{Option, Some, None, MatchOption, IfSome, option_copied}
+use Rattle.rules.specs.Tables as M
+use Rattle.lists.proofs.Iterators.{Shown, shown_used, shown_some, shown_none, find_form}
+use Rattle.cache.specs.cached.View.{view_cached}
+use Rattle.cache.specs.cached.Form.{cached_form, is_blank_cached}
+use Rattle.cache.specs.declared.cached.Cached.{Cached}
 use Rattle.cache.specs.View.{view_cache}
-use Rattle.cache.proofs.CacheLaws.{key_is, entry_form}
+use Rattle.cache.specs.Form.{cache_form}
 use Rattle.call_read_shown.specs.values.Shown.{cached_at}
 use Rattle.call_read_shown.proofs.values.found.Goals as goal
 
-pub loop-i-init : goal.loop-i-init
-unfolding view_cache cached_at
-loop-i-init c = search (seek_start, length_mapped)
-
-pub returns-then-cache-i-clause-shows : goal.returns-then-cache-i-clause-shows
-returns-then-cache-i-clause-shows c = search (seek_end, rules)
-
-pub returns-then-cache-i-clause-form : goal.returns-then-cache-i-clause-form
-returns-then-cache-i-clause-form c = λ f. c.of.ensures.form
-
-pub returns-then-k-cache-clause-shows : goal.returns-then-k-cache-clause-shows
-returns-then-k-cache-clause-shows c = seek_hit c.loop-i.invariant _ (search rules) (search rules) (key_is _ _) (eq-eqb _ _ c.if-k-cache.true) refl
-
-pub returns-then-k-cache-clause-form : goal.returns-then-k-cache-clause-form
-returns-then-k-cache-clause-form c = λ f. entry_form _ _ _ (search rules) f
-
-pub loop-i-preserved : goal.loop-i-preserved
-loop-i-preserved c = seek_next c.loop-i.invariant _ (search rules) (search rules) (key_is _ _) (ne_eqb _ _ c.if-k-cache.false)
-
 pub returns-clause-shows : goal.returns-clause-shows
-returns-clause-shows c = search (seek_past, rules)
+unfolding view_cached view_cache cached_at
+returns-clause-shows c = rw c.copied.ensures (go c.find.result refl)
+  where
+    m : Shown view_cached c.iter.result (view_cache c.args.cache)
+    m = shown_used _ _ c.iter.ensures.rest c.used.ensures
+
+    go : (r : Option (Bor Cached)) → c.find.result ≡ r → MatchOption (option_copied r) (M.is_cached c.args.k (view_cache c.args.cache) ≡ false) (λ x. (M.is_cached c.args.k (view_cache c.args.cache) ≡ true) × (view_cached x ≡ cached_at c.args.k (view_cache c.args.cache)))
+    go None e = sym (shown_none _ (λ x. eqb c.args.k x.key) (λ x. true) false c.find.ensures.ran e m refl (λ x b f j. search (rules, tests)))
+    go (Some y) e = (
+      sym (shown_some _ (λ x. eqb c.args.k x.key) (λ x. true) false y c.find.ensures.ran e m refl (λ x b f j. search (rules, tests))),
+      shown_some _ (λ x. eqb c.args.k x.key) (λ x. x) (record { key = c.args.k; fields = [] }) y c.find.ensures.ran e m refl (λ x b f j. search (rules, tests)),
+    )
 
 pub returns-clause-form : goal.returns-clause-form
-returns-clause-form c = λ f. c.of-2.ensures.form
+unfolding cache_form
+returns-clause-form c = λ h. rw c.copied.ensures (go h c.find.result refl)
+  where
+    go : cache_form c.args.cache ≡ true → (r : Option (Bor Cached)) → c.find.result ≡ r → IfSome (option_copied r) (λ x. cached_form x ≡ true)
+    go h None e = tt
+    go h (Some y) e = find_form (λ x. eqb c.args.k x.key) _ 16 cached_form is_blank_cached _ _ y c.find.ensures.ran e c.iter.ensures.rest c.used.ensures (λ x b f j. search (rules, tests)) h
