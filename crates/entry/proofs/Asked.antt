@@ -19,18 +19,20 @@ use Rattle.plant.specs.View.{view_plant, plant_form, kept_plant}
 use Rattle.plant.specs.declared.Plant.{Plant}
 use Rattle.answers.specs.View.{view_answer, is_refused}
 use Rattle.answers.specs.Own.{is_answer_of}
+use Rattle.std.specs.Prelude.{Result}
 use Rattle.answers.specs.declared.Answer.{Answer}
+use Rattle.answers.specs.declared.Refusal.{Refusal}
 use Rattle.calls.specs.View.{view_call}
 use Rattle.calls.specs.declared.Call.{Call}
 use Rattle.calls.specs.declared.Call.TheVariants.{Read}
 use Rattle.promises.specs.Promise.{result, Answers, Leaves, Keeps}
 use Rattle.call_read_shown.specs.values.Shown.{shown_in}
-use Rattle.call_read.specs.Shows.{fields_of, Shows, Found, filled, shown_by}
-use Rattle.call_read.specs.declared.Seen.{Seen}
-use Rattle.call_read.proofs.Filled.{own_unread, own_read}
+use Rattle.call_read.specs.Shows.{fields_of, Shows, Found}
 use Rattle.entry.specs.Refused.{RefusalLeaves}
 use Rattle.entry_parts.specs.Session.{has_session}
 use Rattle.entry.specs.RanAll.{Entered}
+use Rattle.call_read_shown.specs.declared.Marked.{Marked}
+use Rattle.entry.proofs.Filled.{Seen, filled, shown_by, own_unread, own_read, Carries, carries_answer, carries_filled, carried}
 use Rattle.entry.specs.declared.Told.{Told}
 use Rattle.entry.proofs.Laws.{ran}
 
@@ -40,15 +42,23 @@ pub record Asked (n : ℕ) (p : Plant) (c : Call) (o : Seen) : Type 0 where
   pub fills : (lent : List ℤ) → length lent ≡ n → kept_plant p ≡ true → filled o lent ≡ (result (view_call c) lent p).words
   pub own : is_answer_of (view_call c) o.answer ≡ true
   pub shows : (s k : ℤ) → c ≡ Read s k → is_refused (view_answer o.answer) ≡ false → Shows s k p o.shown
-  pub form : (s k : ℤ) → c ≡ Read s k → plant_form p ≡ true → cached_form o.shown.fields ≡ true
+  pub form : (s k : ℤ) → c ≡ Read s k → is_refused (view_answer o.answer) ≡ false → plant_form p ≡ true → cached_form o.shown.fields ≡ true
 
 -- ── by the function of a read ──
-read_shows : (s k s' k' : ℤ) (p : Plant) (o : Seen) → Read s k ≡ Read s' k' → Shows s k p o.shown → Shows s' k' p o.shown
-read_shows s k s' k' p o e h = let es : s ≡ s' = cc in let ek : k ≡ k' = cc in rw (es, ek) at h
+read_is : (s k s' k' : ℤ) (P : ℤ → ℤ → Type 0) → Read s k ≡ Read s' k' → P s k → P s' k'
+read_is s k s' k' P e h = let es : s ≡ s' = cc in let ek : k ≡ k' = cc in rw (es, ek) at h
 
-pub asked_read : (n : ℕ) (p : Plant) (c : Call) (o r : Seen) (s k : ℤ) → c ≡ Read s k → o ≡ r → Found s k p n r → Asked n p c o
-asked_read n p c o r s k ec eo f =
-    rw (ec, eo) (record { answers = f.answers; fills = f.fills; own = f.own; shows = λ s' k' e h. read_shows s k s' k' p r e (f.shows h); form = λ s' k' e. f.form })
+pub asked_read : (n : ℕ) (p : Plant) (c : Call) (o : Seen) (r : Result Marked Refusal) (s k : ℤ) → c ≡ Read s k → Carries r o → Found s k p n r → Asked n p c o
+asked_read n p c o r s k ec h f =
+    let a = carries_answer r o h in
+    rw ec
+    (record {
+      answers = λ lent e. rw a (f.answers lent e);
+      fills = λ lent e q. carries_filled r o h lent ∙ f.fills lent e q;
+      own = rw a f.own;
+      shows = λ s' k' e g. read_is s k s' k' (λ x y. Shows x y p o.shown) e (carried (Shows s k p) r o h f.shows g);
+      form = λ s' k' e g q. carried (λ m. cached_form m.fields ≡ true) r o h (f.form q) g;
+    })
 
 -- ── by that of a call that is no read: it fills no words ──
 none_filled : (c : C.Call) → eqb (C.call_number c) 4 ≡ false → (lent ws : List ℤ) → Fills c lent ws → ws ≡ lent
@@ -68,7 +78,7 @@ none_filled C.Sweep n lent ws h = h
 none_filled (C.Store t) n lent ws h = h
 none_filled (C.Report s) n lent ws h = h
 
-module _ (n : ℕ) (p : Plant) (c : Call) (o : Seen) (a : Answer) (ea : o.answer ≡ a) where
+module _ (n : ℕ) (p : Plant) (c : Call) (o : Seen) (a : Result Answer Refusal) (ea : o.answer ≡ a) where
   -- whatever stands beside its answer
   pub asked_other : (y : Call) → c ≡ y → eqb (C.call_number (view_call y)) 4 ≡ false → ((lent : List ℤ) → Answers (view_call y) lent p a) → is_answer_of (view_call y) a ≡ true → Asked n p c o
   asked_other y ec other h own =
@@ -88,7 +98,7 @@ pub plain_other : (c : Call) → has_session c ≡ false → eqb (C.call_number 
 plain_other c h = by_case (eqb (C.call_number (view_call c)) 4) (λ e. absurd (true≢false (rw e at h))) (λ e. e)
 
 -- ── with what it leaves ──
-abbrev pub Done : Call → Plant → Answer → Plant → Type 0
+abbrev pub Done : Call → Plant → Result Answer Refusal → Plant → Type 0
 Done c p a q = RefusalLeaves p a q × (Leaves (view_call c) p a q × ((plant_form p ≡ true → plant_form q ≡ true) × Keeps (view_call c) p a q))
 
 -- what a read that is not refused shows

@@ -7,7 +7,9 @@ use Rattle.plant.specs.View.{view_plant, plant_form, kept_plant}
 use Rattle.plant.specs.With.{with_sessions}
 use Rattle.plant.specs.declared.Plant.{Plant}
 use Rattle.answers.specs.View.{view_answer, is_refused, is_ending}
+use Rattle.std.specs.Prelude.{Result}
 use Rattle.answers.specs.declared.Answer.{Answer}
+use Rattle.answers.specs.declared.Refusal.{Refusal}
 use Rattle.calls.specs.View.{view_call}
 use Rattle.calls.specs.declared.Call.{Call}
 use Rattle.promises.specs.Promise.{Performs}
@@ -17,7 +19,7 @@ use Rattle.entry.specs.Refused.{RefusalLeaves}
 use Rattle.entry.proofs.Asked.{Done}
 
 -- ── what a refusal leaves of any plant ──
-module _ (p : Plant) (a : Answer) (e : Bool) (ee : e ≡ is_ending (view_answer a)) where
+module _ (p : Plant) (a : Result Answer Refusal) (e : Bool) (ee : e ≡ is_ending (view_answer a)) where
   leaves_others : e ≡ true → (t : Sessions) → RefusalLeaves p a (with_sessions p t)
   leaves_others h t = record { unchanged = λ r n. absurd (true≢false (sym h ∙ ee ∙ n)); others = λ n. refl }
 
@@ -29,7 +31,7 @@ module _ (p : Plant) (a : Answer) (e : Bool) (ee : e ≡ is_ending (view_answer 
     was_accepted r er g q = record { unchanged = λ i n. absurd (true≢false (sym i ∙ sym er ∙ g)); others = λ n. absurd (true≢false (sym n ∙ sym ee ∙ h)) }
 
 -- ── with all that is promised of it ──
-module _ (c : Call) (p : Plant) (a : Answer) (e : Bool) (ee : e ≡ is_ending (view_answer a)) where
+module _ (c : Call) (p : Plant) (a : Result Answer Refusal) (e : Bool) (ee : e ≡ is_ending (view_answer a)) where
   pub done_ended : e ≡ true → (t : Sessions) → (kept_plant p ≡ true → view_plant (with_sessions p t) ≡ ending (session_of (view_call c)) (view_plant p)) × (plant_form p ≡ true → plant_form (with_sessions p t) ≡ true) → Done c p a (with_sessions p t)
   done_ended h t f = (leaves_others p a e ee h t, and_keeps (view_call c) p (with_sessions p t) a (ends (view_call c) p a e ee h (with_sessions p t) f.0) f.1)
 

@@ -16,15 +16,12 @@ use Rattle.plant.specs.declared.Plant.{Plant}
 use Rattle.answers.specs.View.{view_answer, is_refused}
 use Rattle.answers.specs.Own.{is_answer_of}
 use Rattle.calls.specs.View.{view_call, view_calls, list_limit}
-use Rattle.calls.specs.declared.Item.{Item}
 use Rattle.calls.specs.declared.Calls.{Calls}
 use Rattle.calls.specs.declared.Call.{Call}
-use Rattle.call_read.specs.Shows.{is_read, filled}
-use Rattle.call_read.specs.declared.Seen.{Seen}
-use Rattle.call_read.proofs.Filled.{refused_unread}
 use Rattle.entry.specs.Refused.{RefusalLeaves}
 use Rattle.entry.specs.Ran.{Ran}
-use Rattle.entry.specs.RanAll.{Entered, RanAll}
+use Rattle.entry.specs.RanAll.{is_read, Entered, RanAll}
+use Rattle.entry.proofs.Filled.{Seen, filled, refused_unread}
 use Rattle.entry.specs.declared.Told.{Told}
 
 -- ── parts of a run of words ──
@@ -185,11 +182,11 @@ module _ (n : ℕ) (p : Plant) (cs : List Call) (lent : List ℤ) where
 module _ (t : Calls) (long : length t.items ≡ list_limit) where
   pub counts : length (view_calls t) ≡ min t.count list_limit
   unfolding view_calls
-  counts = counted-length (λ (x : Item). x.call) t.count t.items list_limit long
+  counts = counted-length (λ (x : Call). x) t.count t.items list_limit long
 
   pub few_calls : length (view_calls t) ≤ list_limit
   few_calls = rw counts (omega arith)
 
-  pub call_at : (d : Item) (i : ℕ) → i < length (view_calls t) → (get_or t.items i d).call ≡ get_or (view_calls t) i d.call
+  pub call_at : (d : Call) (i : ℕ) → i < length (view_calls t) → get_or t.items i d ≡ get_or (view_calls t) i d
   unfolding view_calls
-  call_at d i h = counted-at (λ (x : Item). x.call) t.count t.items d d.call i (omega (arith, h, counts)) (omega (arith, h, counts, long))
+  call_at d i h = counted-at (λ (x : Call). x) t.count t.items d d i (omega (arith, h, counts)) (omega (arith, h, counts, long))

@@ -1,6 +1,6 @@
 -- Demand 3 of the code: after every list of calls that are run through the entry from the empty plant, whatever the arguments and the words
 -- lent, demand 3 holds of the plant left behind. Its proof is proofs/Demand3, from the rules' theorem and the entry's promise alone.
-use Rattle.std.specs.Prelude.{◌<◌, ℕ, ◌≡◌, true, List, [], ◌++◌, ◌∷◌, map, length, ℤ}
+use Rattle.std.specs.Prelude.{◌<◌, ℕ, ◌≡◌, true, List, [], ◌++◌, ◌∷◌, map, length, ℤ, Result}
 use Rattle.rules.specs.Lists.{all}
 use Rattle.rules.specs.Limits.{worker_count}
 use Rattle.rules.specs.Tables as M
@@ -11,6 +11,7 @@ use Rattle.plant.specs.View.{view_plant, kept_plant}
 use Rattle.plant.specs.declared.Plant.{Plant}
 use Rattle.answers.specs.View.{view_answer}
 use Rattle.answers.specs.declared.Answer.{Answer}
+use Rattle.answers.specs.declared.Refusal.{Refusal}
 use Rattle.calls.specs.View.{view_call}
 use Rattle.calls.specs.declared.Call.{Call}
 use Rattle.entry.specs.Ran.{Ran}
@@ -20,7 +21,7 @@ use Rattle.entry.specs.Ran.{Ran}
 pub record Event : Type 0 where
   pub call : Call
   pub lent : List ℤ
-  pub answer : Answer
+  pub answer : Result Answer Refusal
   pub words : List ℤ
   pub plant : Plant
 

@@ -1,7 +1,7 @@
 -- Demands 1 and 2 of the code: what a refused call leaves of the plant itself and of the caller's memory, what an answered read shows after any
 -- list of calls, and what a commit leaves. Each plant that calls from set-up leave keeps the rules (`Ran.keeps`). Their proofs are proofs/Demands,
 -- from the rules' theorem and the entry's promise alone.
-use Rattle.std.specs.Prelude.{ℕ, ◌≡◌, false, true, List, ℤ}
+use Rattle.std.specs.Prelude.{ℕ, ◌≡◌, false, true, List, ℤ, Result}
 use Rattle.rules.specs.Values.{nat_of}
 use Rattle.rules.specs.Refusals as R
 use Rattle.rules.specs.Tables as M
@@ -14,6 +14,7 @@ use Rattle.plant.specs.With.{with_sessions}
 use Rattle.plant.specs.declared.Plant.{Plant}
 use Rattle.answers.specs.View.{view_answer}
 use Rattle.answers.specs.declared.Answer.{Answer}
+use Rattle.answers.specs.declared.Refusal.{Refusal}
 use Rattle.calls.specs.declared.Call.{Call}
 use Rattle.calls.specs.declared.Call.TheVariants.{Read, Change, Commit, Abandon, Report}
 use Rattle.entry_parts.specs.Session.{has_session}
@@ -24,7 +25,7 @@ use Rattle.entry.specs.Demand3.{Event, Runs, left, noted}
 -- what holds of the words lent, the plant, and the words and the plant left, wherever the call is refused so
 abbrev pub WhereRefused : Call → R.Refusal → (List ℤ → Plant → List ℤ → Plant → Type 0) → Type 0
 WhereRefused c r Holds =
-    (lent : List ℤ) (p : Plant) (a : Answer) (words : List ℤ) (q : Plant) → kept_plant p ≡ true → Ran c lent p a words q
+    (lent : List ℤ) (p : Plant) (a : Result Answer Refusal) (words : List ℤ) (q : Plant) → kept_plant p ≡ true → Ran c lent p a words q
     → view_answer a ≡ refused r → Holds lent p words q
 
 abbrev pub Unchanged : Type 0
@@ -64,13 +65,13 @@ pub record Demand1 : Type 0 where
 abbrev pub ReadsShow : Type 0
 ReadsShow =
     (p : Plant) → view_plant p ≡ M.setup → kept_plant p ≡ true → (es : List Event) → Runs p es
-    → (s k : ℤ) (lent : List ℤ) (a : Answer) (words : List ℤ) (q : Plant) → Ran (Read s k) lent (left p es) a words q
+    → (s k : ℤ) (lent : List ℤ) (a : Result Answer Refusal) (words : List ℤ) (q : Plant) → Ran (Read s k) lent (left p es) a words q
     → (ns : List ℕ) → view_answer a ≡ fine ns → words ≡ ShownBy (noted es empty_history) s k lent
 
 -- a commit, refused or not, does not touch the store: the fields and the rows are the very same
 abbrev pub CommitLeavesStore : Type 0
 CommitLeavesStore =
-    (s : ℤ) (lent : List ℤ) (p : Plant) (a : Answer) (words : List ℤ) (q : Plant) → kept_plant p ≡ true → Ran (Commit s) lent p a words q
+    (s : ℤ) (lent : List ℤ) (p : Plant) (a : Result Answer Refusal) (words : List ℤ) (q : Plant) → kept_plant p ≡ true → Ran (Commit s) lent p a words q
     → (q.store ≡ p.store) × (q.rows ≡ p.rows)
 
 pub record Demand2 : Type 0 where

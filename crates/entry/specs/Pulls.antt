@@ -1,6 +1,6 @@
 -- A recalled lot leaves the tally whole, of the code: what is claimed of calls that are run through the entry. Its proofs are proofs/Pulls,
 -- from the rules' theorem and the entry's promise alone.
-use Rattle.std.specs.Prelude.{ℕ, ◌≡◌, true, List, ◌++◌, pos, ℤ}
+use Rattle.std.specs.Prelude.{ℕ, ◌≡◌, true, List, ◌++◌, pos, ℤ, Result}
 use Rattle.rules.specs.Changes.{pull, kind_number, becomes, place_of}
 use Rattle.rules.specs.Tables as M
 use Rattle.rules.specs.Reading.{seen}
@@ -14,6 +14,7 @@ use Rattle.plant.specs.View.{view_plant, kept_plant}
 use Rattle.plant.specs.declared.Plant.{Plant}
 use Rattle.answers.specs.View.{view_answer}
 use Rattle.answers.specs.declared.Answer.{Answer}
+use Rattle.answers.specs.declared.Refusal.{Refusal}
 use Rattle.calls.specs.declared.Call.TheVariants.{Load, Change}
 use Rattle.entry.specs.Ran.{Ran}
 use Rattle.entry.specs.Demand3.{Event, Runs, left, noted, exchanges_of}
@@ -22,13 +23,13 @@ use Rattle.entry.specs.Demand3.{Event, Runs, left, noted, exchanges_of}
 -- what a load's pull makes of a field in the store: just the members that equal v go
 abbrev pub LoadPulls : Type 0
 LoadPulls =
-    (d f v : ℤ) (lent : List ℤ) (p : Plant) (a : Answer) (words : List ℤ) (q : Plant) → Ran (Load d f (pos (kind_number pull)) v) lent p a words q
+    (d f v : ℤ) (lent : List ℤ) (p : Plant) (a : Result Answer Refusal) (words : List ℤ) (q : Plant) → Ran (Load d f (pos (kind_number pull)) v) lent p a words q
     → (ns : List ℕ) → view_answer a ≡ fine ns → Pulls v ((view_plant p).store (place_of d f)) (becomes ((view_plant q).store (place_of d f)))
 
 -- and a change's pull of what its session sees
 abbrev pub ChangePulls : Type 0
 ChangePulls =
-    (s d f v : ℤ) (lent : List ℤ) (p : Plant) (a : Answer) (words : List ℤ) (q : Plant) → Ran (Change s d f (pos (kind_number pull)) v) lent p a words q
+    (s d f v : ℤ) (lent : List ℤ) (p : Plant) (a : Result Answer Refusal) (words : List ℤ) (q : Plant) → Ran (Change s d f (pos (kind_number pull)) v) lent p a words q
     → (ns : List ℕ) → view_answer a ≡ fine ns
     → Pulls v (seen (view_plant p) (own s (view_plant p)) (place_of d f)) (becomes (seen (view_plant q) (own s (view_plant q)) (place_of d f)))
 

@@ -1,6 +1,6 @@
 -- Look from the newest booking back, of the code: which calls that are run through the entry get 20 while the store is away. Its proof is
 -- proofs/Walks, from the rules' theorem and the entry's promise alone.
-use Rattle.std.specs.Prelude.{ℕ, ◌≡◌, false, not, true, List, ℤ}
+use Rattle.std.specs.Prelude.{ℕ, ◌≡◌, false, not, true, List, ℤ, Result}
 use Rattle.rules.specs.Lists.{any, all}
 use Rattle.rules.specs.Refusals.{store_away}
 use Rattle.rules.specs.Values.{nat_of}
@@ -12,6 +12,7 @@ use Rattle.plant.specs.View.{view_plant}
 use Rattle.plant.specs.declared.Plant.{Plant}
 use Rattle.answers.specs.View.{view_answer}
 use Rattle.answers.specs.declared.Answer.{Answer}
+use Rattle.answers.specs.declared.Refusal.{Refusal}
 use Rattle.calls.specs.declared.Call.{Call}
 use Rattle.calls.specs.declared.Call.TheVariants.{Read, Change}
 use Rattle.entry.specs.Ran.{Ran}
@@ -19,7 +20,7 @@ use Rattle.entry.specs.Ran.{Ran}
 -- a call that is answered so
 pub record Answered (c : Call) (p : Plant) (told : C.Answer) : Type 0 where
   pub lent : List ℤ
-  pub answer : Answer
+  pub answer : Result Answer Refusal
   pub words : List ℤ
   pub after : Plant
   pub ran : Ran c lent p answer words after

@@ -3,14 +3,14 @@
 
 ghost use Rattle.std.specs.Prelude.{◌≡◌, true, length, take};
 ghost use Rattle.plant.specs.View.{plant_form, kept_plant};
-ghost use Rattle.answers.specs.View.{view_answer, is_refused};
+ghost use Rattle.answers.specs.View.{view_answer, is_refused, is_ending};
 ghost use Rattle.answers.specs.Own.{is_answer_of};
 ghost use Rattle.calls.specs.View.{view_call, view_calls};
 ghost use Rattle.entry.specs.Ran.{Ran};
 ghost use Rattle.entry.specs.RanAll.{RanAll};
 ghost use Rattle.entry.specs.Refused.{RefusalLeaves};
 
-use answers::Answer;
+use answers::{Answer, Refusal};
 use call_read_shown::Marked;
 use calls::{Call, Calls};
 use plant::Plant;
@@ -18,7 +18,7 @@ use plant::Plant;
 // What a call answered, and how many words it shows, of those lent to it.
 #[derive(Clone, Copy)]
 pub struct Told {
-    pub answer: Answer,
+    pub answer: Result<Answer, Refusal>,
     pub shown: usize,
 }
 
@@ -31,6 +31,13 @@ pub struct Outcomes {
     pub told: [Told; Calls::LIMIT],
 }
 
+// The session that called has ended by it.
+fn ends(a: Result<Answer, Refusal>) -> bool
+    ensures { result ≡ is_ending (view_answer a) }
+{
+    a.is_err_and(|r| r.ends_session())
+}
+
 // Runs calls one after the other, and lends each the next `share` of the words, as far as there are any. The plant lies here: calls are asked where
 // it lies and their tables are written in place, because a plant that goes through a function is copied. What a read shows is kept for the
 // cache, and not worked out again.
@@ -39,7 +46,7 @@ pub fn run_all(mut p: Plant, calls: Calls, share: usize, words: &mut [i32]) -> O
     ensures counts { result.count ≡ length (view_calls calls) }
 {
     let none = Told {
-        answer: Answer::Done,
+        answer: Ok(Answer::Done),
         shown: 0,
     };
     let mut told = [none; Calls::LIMIT];
@@ -48,16 +55,20 @@ pub fn run_all(mut p: Plant, calls: Calls, share: usize, words: &mut [i32]) -> O
     let mut i: usize = 0;
     let mut at: usize = 0;
     while i < end {
-        let item = calls.items[i];
-        let c = item.call;
-        let next = at + lists::lesser(share, words.len() - at);
+        let c = calls.items[i];
+        let next = at + share.min(words.len() - at);
         let mut shown: usize = 0;
         let a = match c {
             Call::Read(s, k) => {
-                let o = call_read::found(p, s, k, next - at);
-                shown = o.fill(&mut words[at..next]);
-                read = o.shown;
-                o.answer
+                let found = call_read::found(p, s, k, next - at);
+                shown = call_read::fill(found, &mut words[at..next]);
+                match found {
+                    Ok(m) => {
+                        read = m;
+                        Ok(Answer::Read(m.mark))
+                    }
+                    Err(r) => Err(r),
+                }
             }
             Call::Change(s, d, f, k, v) => call_change::answer(p, s, d, f, k, v),
             Call::Commit(s) => call_commit::answer(p, s),
@@ -68,12 +79,12 @@ pub fn run_all(mut p: Plant, calls: Calls, share: usize, words: &mut [i32]) -> O
         told[i] = Told { answer: a, shown };
         i += 1;
         at = next;
-        if a.ends_session() {
+        if ends(a) {
             let sessions = entry_parts::ended(p, c);
             p.sessions = sessions;
             continue;
         }
-        if a.is_refused() {
+        if a.is_err() {
             continue;
         }
         match c {
@@ -177,7 +188,7 @@ pub fn run_all(mut p: Plant, calls: Calls, share: usize, words: &mut [i32]) -> O
 
 #[derive(Clone, Copy)]
 pub struct Outcome {
-    pub answer: Answer,
+    pub answer: Result<Answer, Refusal>,
     pub plant: Plant,
 }
 

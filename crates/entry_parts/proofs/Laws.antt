@@ -17,7 +17,9 @@ use Rattle.plant.specs.View.{view_plant, plant_form, kept_plant}
 use Rattle.plant.specs.With.{with_sessions}
 use Rattle.plant.specs.declared.Plant.{Plant}
 use Rattle.answers.specs.Own.{is_answer_of}
+use Rattle.std.specs.Prelude.{Result}
 use Rattle.answers.specs.declared.Answer.{Answer}
+use Rattle.answers.specs.declared.Refusal.{Refusal}
 use Rattle.promises.specs.Promise.{Answers}
 use Rattle.entry_parts.specs.Session.{has_session}
 
@@ -80,17 +82,17 @@ in_none (Store n) h = refl
 in_none (Report s) h = absurd (true≢false h)
 
 -- ── an answer is the call's own ──
-pub own : (x y : Call) → x ≡ y → (a : Answer) → is_answer_of (view_call y) a ≡ true → is_answer_of (view_call x) a ≡ true
+pub own : (x y : Call) → x ≡ y → (a : Result Answer Refusal) → is_answer_of (view_call y) a ≡ true → is_answer_of (view_call x) a ≡ true
 own x y e a h = subst (λ c. is_answer_of (view_call c) a ≡ true) (sym e) h
 
 -- ── what a plain call answers ──
-abbrev Plainly : Plant → Answer → Call → Type 0
+abbrev Plainly : Plant → Result Answer Refusal → Call → Type 0
 Plainly p a c = has_session c ≡ false → (lent : List ℤ) → Answers (view_call c) lent p a
 
-pub plainly : (p : Plant) (x y : Call) → x ≡ y → (a : Answer) → ((lent : List ℤ) → Answers (view_call y) lent p a) × (is_answer_of (view_call y) a ≡ true) → Plainly p a x × (has_session x ≡ false → is_answer_of (view_call x) a ≡ true)
+pub plainly : (p : Plant) (x y : Call) → x ≡ y → (a : Result Answer Refusal) → ((lent : List ℤ) → Answers (view_call y) lent p a) × (is_answer_of (view_call y) a ≡ true) → Plainly p a x × (has_session x ≡ false → is_answer_of (view_call x) a ≡ true)
 plainly p x y e a h = (subst (Plainly p a) (sym e) (λ t. h.0), λ t. own x y e a h.1)
 
-pub not_plain : (p : Plant) (c : Call) (a : Answer) → OneOf of_sessions (tag_of the_type c) → Plainly p a c × (has_session c ≡ false → is_answer_of (view_call c) a ≡ true)
+pub not_plain : (p : Plant) (c : Call) (a : Result Answer Refusal) → OneOf of_sessions (tag_of the_type c) → Plainly p a c × (has_session c ≡ false → is_answer_of (view_call c) a ≡ true)
 not_plain p c a h = (λ t. absurd (true≢false (sym (has_session_lem c h) ∙ t)), λ t. absurd (true≢false (sym (has_session_lem c h) ∙ t)))
 
 -- ── what a refusal leaves of the sessions ──

@@ -2,6 +2,7 @@
 use borrow.Author.Rules.{rules}
 use Rattle.calls.proofs.Back.{back1, back2, back4, back10}
 use Rattle.calls.specs.declared.Call.TheVariants.{Load, Map, Advance, Take, Apply, Delete, Cut, Store}
+use Rattle.std.specs.Prelude.{Ok}
 use Rattle.answers.specs.declared.Answer.TheVariants.{Done}
 use Rattle.entry_parts.proofs.Laws.{plainly, not_plain}
 use Rattle.entry_parts.proofs.plain.Goals as goal
@@ -58,5 +59,5 @@ returns-in-Store c =
 
 pub returns-in_default : goal.returns-in_default
 returns-in_default c =
-    let r = not_plain c.args.p c.args.c Done (search rules) in
+    let r = not_plain c.args.p c.args.c (Ok Done) (search rules) in
     record { answers = r.0; own = r.1 }
