@@ -2,26 +2,27 @@
 use mathlib.Core.Path.{◌≡◌, refl, sym, ◌∙◌, ap}
 use mathlib.Core.Bool.{Bool, true, false}
 use mathlib.Core.List.{List, [], ◌∷◌, ◌++◌, append_assoc, append-nil, map}
-use Prim.Native.Nat.{ℕ, ◌+◌, ◌-◌, ◌*◌, ◌/◌, ◌≤◌, ◌<◌, ◌^◌}
+use Prim.Native.Nat.{ℕ, ◌+◌, ◌-◌, ◌*◌, ◌≤◌, ◌<◌, ◌^◌}
 use native.Mathlib.Numerals.{add-one}
 use native.Mathlib.Omega.{arith}
 use lib.Dec.{leb}
 use lib.IntN.{ℤ, pos}
 use lib.ListN.{length, get_or, take, drop, set, length-append, length-take, length-map, get_or-map}
-use lib.Seq.{take_all, take-suc, length-take-le, get_or-take}
+use lib.Seq.{take_all, take-suc, length-take-le}
 use lib.Signed.{mag}
 use mir.Syntax.{w32}
 use mir.Val.{to_z, of_z}
 use mir.Facts.{to_z-of_z}
 use borrow.Author.Rules.{sfits_of}
-use borrow.Author.Tests.{le-leb, lt-leb, leb-true, leb-false}
+use borrow.Author.Tests.{leb-true}
 use borrow.Rule.Slice.PartMut.{put_mid}
-use Rattle.rules.proofs.Laws.{by_case}
 use Rattle.rules.specs.Refusals.{refusal_number}
 use Rattle.rules.specs.Calls.{Answer, refused, fine}
 use Rattle.rules.specs.Limits.{place_limit, words_per_field}
 use Rattle.answers.specs.View.{view_answer}
+use Rattle.std.specs.Prelude.{Result}
 use Rattle.answers.specs.declared.Answer as answers
+use Rattle.answers.specs.declared.Refusal.{Refusal}
 use Rattle.line_format.specs.Bytes.{newline, call_width, number_width}
 use Rattle.line_format.specs.Columns.{is_negative, magnitude, column}
 use Rattle.line_format.specs.Lines.{columns, answer_line}
@@ -32,7 +33,7 @@ use Rattle.line_print.specs.told.Told.{refusal_in, numbers_in, words_in, number_
 use Rattle.line_print.specs.declared.told.Told.{Told}
 use Rattle.line_print.proofs.told.ToldLaws.{numbers_few, words_few}
 use Rattle.line_print.specs.Line.{line_width, longest, line_of, taken}
-use Rattle.line_print.proofs.Written.{Written, nothing, first, as_printed, long, on, byte}
+use Rattle.line_print.proofs.Written.{Written, nothing, first, as_printed, on, byte}
 
 column-length : (z : ℤ) → length (column number_width z) ≡ number_width
 unfolding column
@@ -46,49 +47,38 @@ columns_last : (zs : List ℤ) (z : ℤ) → columns (zs ++ (z ∷ [])) ≡ colu
 columns_last [] z = append-nil (column number_width z)
 columns_last (x ∷ zs) z = ap (λ (l : List ℕ). column number_width x ++ l) (columns_last zs z) ∙ sym (append_assoc (column number_width x) (columns zs) (column number_width z))
 
--- ── a loop that prints the n numbers zs ──
-pub record Printing (zs : List ℤ) (n : ℕ) (v vs : List ℕ) (i : ℕ) : Type 0 where
-  pub count : length zs ≡ n
-  pub room : number_width * n ≤ length v
-  pub at : i ≤ n
-  pub long : length vs ≡ length v
+-- ── a loop that prints the numbers zs ──
+pub record Printing (zs : List ℤ) (v vs : List ℕ) (i : ℕ) : Type 0 where
+  pub room : number_width * length zs ≤ length v
+  pub at : i ≤ length zs
   pub done : Written v (columns (take i zs)) vs
 
-pub print_start : (zs : List ℤ) (n : ℕ) (v : List ℕ) → length zs ≡ n → number_width * n ≤ length v → Printing zs n v v 0
-print_start zs n v l h = record { count = l; room = h; at = omega arith; long = refl; done = nothing }
+pub print_start : (zs : List ℤ) (v : List ℕ) → number_width * length zs ≤ length v → Printing zs v v 0
+print_start zs v h = record { room = h; at = omega arith; done = nothing }
 
-module _ {zs : List ℤ} {n : ℕ} {v vs : List ℕ} {i : ℕ} (inv : Printing zs n v vs i) where
+module _ {zs : List ℤ} {v vs : List ℕ} {i : ℕ} (inv : Printing zs v vs i) where
   here : number_width * i ≡ length (columns (take i zs))
   here =
       let a = inv.at in
-      let l = inv.count in
       let t : length (take i zs) ≡ i = simp length-take (omega arith) in
       omega (arith, columns-length (take i zs))
 
-  pub print_next : (d z : ℤ) (ys : List ℕ) → i < n → z ≡ get_or zs i d → ys ≡ printed (column number_width z) (take (length vs - number_width * i) (drop (number_width * i) vs)) → Printing zs n v (put_mid (number_width * i) (length vs - number_width * i) vs ys) (i + 1)
+  pub print_next : (d z : ℤ) (ys : List ℕ) → i < length zs → z ≡ get_or zs i d → ys ≡ printed (column number_width z) (take (length vs - number_width * i) (drop (number_width * i) vs)) → Printing zs v (put_mid (number_width * i) (length vs - number_width * i) vs ys) (i + 1)
   print_next d z ys h e p =
-      let l = inv.count in
       let r = inv.room in
-      let c : columns (take (i + 1) zs) ≡ columns (take i zs) ++ column number_width z = rw (add-one i, take-suc zs i d (omega arith), ← e) (columns_last (take i zs) z) in
+      let c : columns (take (i + 1) zs) ≡ columns (take i zs) ++ column number_width z = rw (add-one i, take-suc zs i d h, ← e) (columns_last (take i zs) z) in
       let w = on inv.done (number_width * i) here (column number_width z) ys (omega (arith, column-length z)) p in
-      record { count = l; room = r; at = omega arith; long = long w; done = rw c w }
+      record { room = r; at = omega arith; done = rw c w }
 
-  pub print_end : n ≤ i → vs ≡ printed (columns zs) v
-  print_end h = as_printed inv.done ∙ ap (λ (l : List ℤ). printed (columns l) v) (take_all i zs (omega (arith, inv.count)))
+  pub print_end : length zs ≤ i → vs ≡ printed (columns zs) v
+  print_end h = as_printed inv.done ∙ ap (λ (l : List ℤ). printed (columns l) v) (take_all i zs (omega arith))
 
--- the first n of the numbers that an answer tells, and of the words that a read shows
-pub numbers-count : (ns : List ℕ) (n k : ℕ) → n ≤ k → length ns ≡ k → length (map pos (take n ns)) ≡ n
-numbers-count ns n k h l = length-map (take n ns) pos ∙ length-take-le n ns (omega arith)
+-- a number that is told, and a word, as a local holds it
+pub number_at : (ns : List ℕ) (i : ℕ) → pos (get_or ns i 0) ≡ get_or (map pos ns) i (pos 0)
+number_at ns i = sym (get_or-map pos ns i 0)
 
-pub number_at : (ns : List ℕ) (n i : ℕ) → i < n → pos (get_or ns i 0) ≡ get_or (map pos (take n ns)) i (pos 0)
-number_at ns n i h = sym (get_or-map pos (take n ns) i 0 ∙ ap pos (get_or-take n ns i 0 h))
-
-pub words_count : (ws : List ℤ) (n : ℕ) → n ≤ length ws → length (take n ws) ≡ n
-words_count ws n h = length-take-le n ws h
-
--- as a local holds it
-pub word_at : (ws : List ℤ) (n i : ℕ) → i < n → mag (get_or ws i (pos 0)) < 2 ^ 31 → to_z w32 (of_z w32 (get_or ws i (pos 0))) ≡ get_or (take n ws) i (pos 0)
-word_at ws n i h m = to_z-of_z {w = w32} {z = get_or ws i (pos 0)} (sfits_of m) ∙ sym (get_or-take n ws i (pos 0) h)
+pub word_at : (ws : List ℤ) (i : ℕ) → mag (get_or ws i (pos 0)) < 2 ^ 31 → to_z w32 (of_z w32 (get_or ws i (pos 0))) ≡ get_or ws i (pos 0)
+word_at ws i m = to_z-of_z {w = w32} {z = get_or ws i (pos 0)} (sfits_of m)
 
 -- ── the line ──
 columns_append : (xs ys : List ℤ) → columns (xs ++ ys) ≡ columns xs ++ columns ys
@@ -113,43 +103,40 @@ numbers t = columns (map pos (take t.count t.numbers))
 pub told_count : (t : Told) → t.count ≤ number_limit → length t.numbers ≡ number_limit → length (take t.count t.numbers) ≡ t.count
 told_count t h l = length-take-le t.count t.numbers (omega arith)
 
--- what is told, n words, and the lengths of their columns
-module _ (t : Told) (ws : List ℤ) (n : ℕ) (l : length (take t.count t.numbers) ≡ t.count) (few : n ≤ length ws) where
+-- what is told, the words, and the lengths of their columns
+module _ (t : Told) (ws : List ℤ) (l : length (take t.count t.numbers) ≡ t.count) where
   numbers-length : length (numbers t) ≡ number_width * t.count
   numbers-length = omega (arith, columns-length (map pos (take t.count t.numbers)), length-map (take t.count t.numbers) pos)
 
-  words_length : length (columns (take n ws)) ≡ number_width * n
-  words_length = omega (arith, columns-length (take n ws), words_count ws n few)
-
-  line-length : length (line_of t (take n ws)) ≡ line_width t.count n
-  line-length = simp length-append (omega (arith, refusal-length t.refusal, numbers-length, words_length))
+  line-length : length (line_of t ws) ≡ line_width t.count (length ws)
+  line-length = simp length-append (omega (arith, refusal-length t.refusal, numbers-length, columns-length ws))
 
   abbrev at : ℕ
   at = call_width + number_width * t.count
 
   -- each part is printed into a part lent on
   abbrev pub parts : List ℕ
-  parts = (refusal t ++ numbers t) ++ columns (take n ws)
+  parts = (refusal t ++ numbers t) ++ columns ws
 
-  module _ (v : List ℕ) (h : line_width t.count n ≤ length v) where
+  module _ (v : List ℕ) (h : line_width t.count (length ws) ≤ length v) where
     pub parts_written : (vs ys zs : List ℕ) → vs ≡ printed (refusal t) v → ys ≡ printed (numbers t) (take (length vs - call_width) (drop call_width vs))
-        → zs ≡ printed (columns (take n ws)) (take (length (put_mid call_width (length vs - call_width) vs ys) - at) (drop at (put_mid call_width (length vs - call_width) vs ys)))
+        → zs ≡ printed (columns ws) (take (length (put_mid call_width (length vs - call_width) vs ys) - at) (drop at (put_mid call_width (length vs - call_width) vs ys)))
         → Written v parts (put_mid at (length (put_mid call_width (length vs - call_width) vs ys) - at) (put_mid call_width (length vs - call_width) vs ys) zs)
     parts_written vs ys zs p q r =
         let r₀ = refusal-length t.refusal in
         let n₀ = numbers-length in
-        let w₀ = words_length in
+        let w₀ = columns-length ws in
         let w₁ = first v (refusal t) vs (omega arith) p in
         let w₂ = on w₁ call_width (sym r₀) (numbers t) ys (omega arith) q in
-        on w₂ at (simp length-append (omega arith)) (columns (take n ws)) zs (omega arith) r
+        on w₂ at (simp length-append (omega arith)) (columns ws) zs (omega arith) r
 
     -- and then byte 10
-    pub line-ended : (vs : List ℕ) → Written v parts vs → set vs (at + number_width * n) newline ≡ printed (line_of t (take n ws)) v
+    pub line-ended : (vs : List ℕ) → Written v parts vs → set vs (at + number_width * length ws) newline ≡ printed (line_of t ws) v
     line-ended vs w =
         let r₀ = refusal-length t.refusal in
         let n₀ = numbers-length in
-        let w₀ = words_length in
-        as_printed (byte w (at + number_width * n) (simp length-append (omega arith)) newline (omega arith))
+        let w₀ = columns-length ws in
+        as_printed (byte w (at + number_width * length ws) (simp length-append (omega arith)) newline (omega arith))
 
 -- ── the answer's line ──
 module _ (a : Answer) (t : Told) (ws : List ℤ) (shown n : ℕ) (tells : Tells a t) (shows : Shows a ws shown n) where
@@ -161,39 +148,30 @@ module _ (a : Answer) (t : Told) (ws : List ℤ) (shown n : ℕ) (tells : Tells 
       let p : answer_line a (take shown ws) ≡ (refusal t ++ numbers t) ++ columns (take n ws) = in_parts a (take shown ws) ∙ rw (← tells.refusal, ← tells.numbers, ← shows.words) (sym (append_assoc (refusal t) (numbers t) (columns (take n ws)))) in
       ap ended p
 
+  shown-length : length (take n ws) ≡ n
+  shown-length = length-take-le n ws shows.few
+
   width : length line ≡ line_width t.count n
-  width = ap length line_is ∙ line-length t ws n (ap length tells.numbers ∙ sym tells.count) shows.few
+  width = ap length line_is ∙ line-length t (take n ws) (ap length tells.numbers ∙ sym tells.count) ∙ ap (line_width t.count) shown-length
 
   module _ (v : List ℕ) (fit : Bool) (e : fit ≡ leb (line_width t.count n) (length v)) where
     pub no_room_lem : fit ≡ false → (v ≡ printed line v) × (0 ≡ taken line v)
     unfolding printed taken
     no_room_lem h = let q : leb (length line) (length v) ≡ false = rw width (sym e ∙ h) in (rw q refl, rw q refl)
 
-    pub line-printed : fit ≡ true → (vs : List ℕ) (r : ℕ) → vs ≡ printed (line_of t (take n ws)) v → r ≡ line_width t.count n → (vs ≡ printed line v) × (r ≡ taken line v)
+    pub room_is : fit ≡ true → line_width t.count (length (take n ws)) ≤ length v
+    room_is h = rw shown-length (leb-true (line_width t.count n) (length v) (sym e ∙ h))
+
+    pub line-printed : fit ≡ true → (vs : List ℕ) (r : ℕ) → vs ≡ printed (line_of t (take n ws)) v → r ≡ line_width t.count (length (take n ws)) → (vs ≡ printed line v) × (r ≡ taken line v)
     unfolding taken
     line-printed h vs r p q =
         let b : leb (length line) (length v) ≡ true = rw width (sym e ∙ h) in
-        (p ∙ ap (λ (l : List ℕ). printed l v) (sym line_is), q ∙ rw b (sym width))
+        (p ∙ ap (λ (l : List ℕ). printed l v) (sym line_is), q ∙ rw b (ap (line_width t.count) shown-length ∙ sym width))
 
 -- whoever lends so many bytes has room for every line
-pub line_short : (a : answers.Answer) (ws : List ℤ) → length ws ≤ words_per_field * place_limit → length (ended (answer_line (view_answer a) ws)) ≤ longest
+pub line_short : (a : Result answers.Answer Refusal) (ws : List ℤ) → length ws ≤ words_per_field * place_limit → length (ended (answer_line (view_answer a) ws)) ≤ longest
 line_short a ws h =
     rw (in_parts (view_answer a) ws)
     (simp length-append
     (omega
     (arith, refusal-length (refusal_in (view_answer a)), columns-length (map pos (numbers_in (view_answer a))), columns-length (words_in (view_answer a) ws), length-map (numbers_in (view_answer a)) pos, numbers_few a, words_few (view_answer a) ws)))
-
--- ── the test for room ──
-module _ (count n room : ℕ) where
-  pub room_less : room < call_width + number_width * count + 1 → false ≡ leb (line_width count n) room
-  room_less h = sym (lt-leb (line_width count n) room (omega arith))
-
-  pub room_left : call_width + number_width * count + 1 ≤ room → leb n ((room - (call_width + number_width * count + 1)) / number_width) ≡ leb (line_width count n) room
-  room_left h =
-      let m = (room - (call_width + number_width * count + 1)) / number_width in
-      by_case (leb n m)
-      (λ q. q ∙ sym (le-leb (line_width count n) room (omega (arith, leb-true n m q))))
-      (λ q. q ∙ sym (lt-leb (line_width count n) room (omega (arith, leb-false n m q))))
-
-  pub room_is : (fit : Bool) → fit ≡ leb (line_width count n) room → fit ≡ true → line_width count n ≤ room
-  room_is fit e h = leb-true (line_width count n) room (sym e ∙ h)

@@ -28,7 +28,7 @@ module _ {v done vs : List ℕ} (w : Written v done vs) where
   pub as_printed : vs ≡ printed done v
   as_printed = w.is ∙ sym (printed_within done v w.room)
 
-  pub long : length vs ≡ length v
+  long : length vs ≡ length v
   long = let r = w.room in rw w.is (simp (length-append, length-drop) (omega arith))
 
   module _ (at : ℕ) (e : at ≡ length done) where

@@ -13,7 +13,7 @@ ghost use Rattle.line_print.specs.columns.Printed.{printed};
 ghost use Rattle.line_print.specs.told.Told.{number_limit};
 ghost use Rattle.line_print.specs.Line.{line_width, line_of, taken};
 
-use answers::Answer;
+use answers::{Answer, Refusal};
 use field::Field;
 use keys::Key;
 use line_format::{CALL_WIDTH, NEWLINE, NUMBER_WIDTH};
@@ -25,29 +25,23 @@ pub const WORDS: usize = Field::WORDS * Key::LIMIT;
 // Room for the line of any answer: as many numbers as one tells, the words of the longest key, and byte 10.
 pub const LONGEST: usize = CALL_WIDTH + NUMBER_WIDTH * (Told::LIMIT + WORDS) + 1;
 
-// The numbers that are told, each in its columns.
-fn print_numbers(t: Told, out: &mut [u8])
-    requires { (t.count ≤ number_limit) × (number_width * t.count ≤ length out.old) }
-    ensures { out.new ≡ printed (columns (map pos (take t.count t.numbers))) out.old }
+// Numbers that are told, each in its columns.
+fn print_numbers(numbers: &[u64], out: &mut [u8])
+    requires { number_width * length numbers.now ≤ length out.old }
+    ensures { out.new ≡ printed (columns (map pos numbers.now)) out.old }
 {
-    let mut i: usize = 0;
-    while i < t.count {
-        let at = NUMBER_WIDTH * i;
-        columns::number(t.numbers[i], &mut out[at..]);
-        i += 1;
+    for (i, n) in numbers.iter().enumerate() {
+        columns::number(*n, &mut out[NUMBER_WIDTH * i..]);
     }
 }
 
-// The first n words, each in its columns.
-fn print_words(ws: &[i32], n: usize, out: &mut [u8])
-    requires { (n ≤ length ws.now) × (number_width * n ≤ length out.old) }
-    ensures { out.new ≡ printed (columns (take n ws.now)) out.old }
+// Words that are shown, each in its columns.
+fn print_words(words: &[i32], out: &mut [u8])
+    requires { number_width * length words.now ≤ length out.old }
+    ensures { out.new ≡ printed (columns words.now) out.old }
 {
-    let mut i: usize = 0;
-    while i < n {
-        let at = NUMBER_WIDTH * i;
-        columns::word(ws[i], &mut out[at..]);
-        i += 1;
+    for (i, z) in words.iter().enumerate() {
+        columns::word(*z, &mut out[NUMBER_WIDTH * i..]);
     }
 }
 
@@ -57,30 +51,27 @@ fn has_room(count: usize, n: usize, room: usize) -> bool
     ensures { result ≡ leb (line_width count n) room }
 {
     let fixed = CALL_WIDTH + NUMBER_WIDTH * count + 1;
-    if room < fixed {
-        return false;
-    }
-    n <= (room - fixed) / NUMBER_WIDTH
+    fixed <= room && n <= (room - fixed) / NUMBER_WIDTH
 }
 
-// The line of what is told and the first n words; its length.
-fn print_line(t: Told, words: &[i32], n: usize, out: &mut [u8]) -> usize
-    requires { (t.count ≤ number_limit) × (n ≤ length words.now) × (line_width t.count n ≤ length out.old) }
-    ensures prints { out.new ≡ printed (line_of t (take n words.now)) out.old }
-    ensures takes { result ≡ line_width t.count n }
+// The line of what is told and of the words; its length.
+fn print_line(t: Told, words: &[i32], out: &mut [u8]) -> usize
+    requires { (t.count ≤ number_limit) × (line_width t.count (length words.now) ≤ length out.old) }
+    ensures prints { out.new ≡ printed (line_of t words.now) out.old }
+    ensures takes { result ≡ line_width t.count (length words.now) }
 {
     let at = CALL_WIDTH + NUMBER_WIDTH * t.count;
-    let end = at + NUMBER_WIDTH * n;
+    let end = at + NUMBER_WIDTH * words.len();
     columns::refusal(t.refusal, out);
-    print_numbers(t, &mut out[CALL_WIDTH..]);
-    print_words(words, n, &mut out[at..]);
+    print_numbers(&t.numbers[..t.count], &mut out[CALL_WIDTH..]);
+    print_words(words, &mut out[at..]);
     out[end] = NEWLINE;
     end + 1
 }
 
 // Prints the answer with the first `shown` of a read's words, byte 10 last, and tells how many bytes that takes;
 // nothing, and 0, where too few are lent.
-pub fn answer(a: Answer, words: &[i32], shown: usize, out: &mut [u8]) -> usize
+pub fn answer(a: Result<Answer, Refusal>, words: &[i32], shown: usize, out: &mut [u8]) -> usize
     ensures prints { out.new ≡ printed (ended (answer_line (view_answer a) (take shown words.now))) out.old }
     ensures takes { result ≡ taken (ended (answer_line (view_answer a) (take shown words.now))) out.old }
 {
@@ -89,5 +80,5 @@ pub fn answer(a: Answer, words: &[i32], shown: usize, out: &mut [u8]) -> usize
     if !has_room(t.count, n, out.len()) {
         return 0;
     }
-    print_line(t, words, n, out)
+    print_line(t, &words[..n], out)
 }

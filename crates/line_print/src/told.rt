@@ -4,7 +4,7 @@ ghost use Rattle.rules.specs.Calls.{fine};
 ghost use Rattle.answers.specs.View.{view_answer};
 ghost use Rattle.line_print.specs.told.Told.{Tells, Shows};
 
-use answers::Answer;
+use answers::{Answer, Refusal};
 
 // What an answer tells: its refusal or 0, and the first `count` of the numbers.
 #[derive(Clone, Copy)]
@@ -27,30 +27,30 @@ impl Told {
         }
     }
 
-    pub fn of(a: Answer) -> Self
+    pub fn of(a: Result<Answer, Refusal>) -> Self
         ensures { Tells (view_answer a) result }
     {
         match a {
-            Answer::Refused(r) => Told {
+            Err(r) => Told {
                 refusal: r.number(),
                 count: 0,
                 numbers: [0, 0, 0],
             },
-            Answer::Done => Told {
+            Ok(Answer::Done) => Told {
                 refusal: 0,
                 count: 0,
                 numbers: [0, 0, 0],
             },
-            Answer::Begun(n) => Told::one(n as u64),
-            Answer::Read(m) => Told::one(m.number() as u64),
-            Answer::Changed(n) => Told::one(n as u64),
-            Answer::Committed(n) => Told::one(n as u64),
-            Answer::Advanced(t) => Told::one(t),
-            Answer::Taken(n) => Told::one(n as u64),
-            Answer::Applied(r) => Told::one(r.number() as u64),
-            Answer::Deleted(b) => Told::one(b as u64),
-            Answer::Swept(n) => Told::one(n as u64),
-            Answer::Reported(s, x, c) => Told {
+            Ok(Answer::Begun(n)) => Told::one(n as u64),
+            Ok(Answer::Read(m)) => Told::one(m.number() as u64),
+            Ok(Answer::Changed(n)) => Told::one(n as u64),
+            Ok(Answer::Committed(n)) => Told::one(n as u64),
+            Ok(Answer::Advanced(t)) => Told::one(t),
+            Ok(Answer::Taken(n)) => Told::one(n as u64),
+            Ok(Answer::Applied(r)) => Told::one(r.number() as u64),
+            Ok(Answer::Deleted(b)) => Told::one(b as u64),
+            Ok(Answer::Swept(n)) => Told::one(n as u64),
+            Ok(Answer::Reported(s, x, c)) => Told {
                 refusal: 0,
                 count: 3,
                 numbers: [s as u64, x as u64, c as u64],
@@ -60,14 +60,11 @@ impl Told {
 }
 
 // How many of the words a line shows: a refusal shows none.
-pub fn shown_words(a: Answer, words: &[i32], shown: usize) -> usize
+pub fn shown_words(a: Result<Answer, Refusal>, words: &[i32], shown: usize) -> usize
     ensures { Shows (view_answer a) words.now shown result }
 {
-    if a.is_refused() {
+    if a.is_err() {
         return 0;
     }
-    if words.len() < shown {
-        return words.len();
-    }
-    shown
+    shown.min(words.len())
 }

@@ -1,5 +1,4 @@
 -- `answer` meets its contract.
-use borrow.Author.Rules.{rules}
 use Rattle.line_print.proofs.LineLaws.{room_is, no_room_lem, line-printed}
 use Rattle.line_print.proofs.answer.Goals as goal
 
@@ -9,7 +8,7 @@ returns-then-not-has_room c =
     record { prints = r.0; takes = r.1 }
 
 pub print_line-requires : goal.print_line-requires
-print_line-requires c = search (room_is, rules)
+print_line-requires c = (c.of-t.ensures.few, room_is _ _ _ _ _ c.of-t.ensures c.shown_words-n.ensures _ _ c.has_room.ensures c.if-not-has_room.false)
 
 pub returns : goal.returns
 returns c =

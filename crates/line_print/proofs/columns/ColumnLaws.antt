@@ -1,6 +1,6 @@
 -- A number's columns, filled from the last digit: one law for each way out of a function.
 use mathlib.Core.Path.{◌≡◌, refl, sym, ◌∙◌, ap}
-use mathlib.Core.Bool.{Bool, true, false, cond, not, true≢false}
+use mathlib.Core.Bool.{Bool, true, false, cond, true≢false}
 use mathlib.Core.List.{List, [], ◌∷◌, ◌++◌}
 use Prim.Native.Nat.{ℕ, zero, suc, ◌+◌, ◌-◌, ◌/◌, ◌%◌, ◌≤◌, ◌<◌}
 use native.Mathlib.Omega.{arith}
@@ -8,6 +8,7 @@ use lib.Dec.{ltb}
 use lib.IntN.{pos}
 use lib.ListN.{length, take, drop, set, replicate, length-append, length-drop, length-set, length-replicate, take-append-drop}
 use lib.Seq.{drop-cons, get_or-set_same, drop-set-lt, take-set-le, take_at, drop_at, take-take, set_at, append_snoc}
+use Rattle.std.proofs.Common.{◌⊎◌, inl, inr}
 use Rattle.rules.proofs.Laws.{by_case}
 use borrow.Author.Tests.{le-leb, lt-leb, lt-ltb, le-ltb}
 use Rattle.line_format.specs.Bytes.{space, minus, digit_zero, base, call_width}
@@ -16,13 +17,15 @@ use Rattle.line_format.proofs.Widths.{replicate_last, spaces, columns_long}
 use Rattle.line_print.specs.columns.Printed.{printed}
 
 -- ── the columns before the digits ──
-pub sign_none : (negative : Bool) (w : ℕ) (v : List ℕ) → take w v ≡ replicate w space → not negative ≡ true → v ≡ before negative w ++ drop w v
-sign_none true w v e h = absurd (true≢false (sym h))
-sign_none false w v e h = sym (take-append-drop w v) ∙ ap (λ (l : List ℕ). l ++ drop w v) (e ∙ sym (spaces w))
+pub sign_none : (negative : Bool) (w : ℕ) (v : List ℕ) → take w v ≡ replicate w space → (negative ≡ true × w ≤ 0) ⊎ (negative ≡ false) → v ≡ before negative w ++ drop w v
+sign_none negative zero v e h = refl
+sign_none true (suc j) v e (inl h) = absurd (omega (arith, h.1))
+sign_none true (suc j) v e (inr h) = absurd (true≢false h)
+sign_none false (suc j) v e h = sym (take-append-drop (suc j) v) ∙ ap (λ (l : List ℕ). l ++ drop (suc j) v) (e ∙ sym (spaces (suc j)))
 
-pub sign_put : (negative : Bool) (w : ℕ) (v : List ℕ) → take w v ≡ replicate w space → not negative ≡ false → (w ≡ 0 → ⊥) → set v (w - 1) minus ≡ before negative w ++ drop w v
-sign_put false w v e h n = absurd (true≢false h)
-sign_put true zero v e h n = absurd (n refl)
+pub sign_put : (negative : Bool) (w : ℕ) (v : List ℕ) → take w v ≡ replicate w space → negative ≡ true → 0 < w → set v (w - 1) minus ≡ before negative w ++ drop w v
+sign_put false w v e h n = absurd (true≢false (sym h))
+sign_put true zero v e h n = absurd (omega arith)
 sign_put true (suc j) v e h n =
     let q : suc j - 1 ≡ j = omega arith in
     let s : v ≡ replicate j space ++ (space ∷ drop (suc j) v) = sym (take-append-drop (suc j) v) ∙ ap (λ (l : List ℕ). l ++ drop (suc j) v) (e ∙ sym (replicate_last j space)) ∙ append_snoc (replicate j space) space (drop (suc j) v) in
@@ -100,7 +103,7 @@ module _ {negative : Bool} {n w : ℕ} {v vs : List ℕ} {rest i : ℕ} (inv : F
     fill_last u ys m b h q = all_filled negative n w u v ys m b (moved ∙ rw (lt-ltb rest base h) (sym q))
 
 -- ── the two columns of a refusal ──
-two_set : (u : List ℕ) (a b : ℕ) → 2 ≤ length u → set (set u 1 b) 0 a ≡ a ∷ b ∷ drop 2 u
+two_set : (u : List ℕ) (a b : ℕ) → 2 ≤ length u → set (set u 0 a) 1 b ≡ a ∷ b ∷ drop 2 u
 two_set [] a b h = absurd (omega arith)
 two_set (x ∷ []) a b h = absurd (omega arith)
 two_set (x ∷ y ∷ u) a b h = refl
@@ -111,14 +114,14 @@ module _ (n : ℕ) (u : List ℕ) where
   refusal_few h = too_few false n call_width u h
 
   module _ (a b : ℕ) (h : call_width ≤ length u) (e : b ≡ digit_zero + n % base) where
-    two_printed : column call_width (pos n) ≡ a ∷ b ∷ [] → set (set u 1 b) 0 a ≡ printed (column call_width (pos n)) u
+    two_printed : column call_width (pos n) ≡ a ∷ b ∷ [] → set (set u 0 a) 1 b ≡ printed (column call_width (pos n)) u
     unfolding printed
     two_printed q = rw (q, le-leb call_width (length u) h) (two_set u a b h)
 
-    pub refusal_one : n < base → a ≡ space → set (set u 1 b) 0 a ≡ printed (column call_width (pos n)) u
+    pub refusal_one : n < base → a ≡ space → set (set u 0 a) 1 b ≡ printed (column call_width (pos n)) u
     unfolding column
     refusal_one m q = two_printed (rw (lt-ltb n base m, e, q) refl)
 
-    pub refusal_two : base ≤ n → a ≡ digit_zero + n / base % base → set (set u 1 b) 0 a ≡ printed (column call_width (pos n)) u
+    pub refusal_two : base ≤ n → a ≡ digit_zero + n / base % base → set (set u 0 a) 1 b ≡ printed (column call_width (pos n)) u
     unfolding column
     refusal_two m q = two_printed (rw (le-ltb n base m, e, q) (by_case (ltb (n / base) base) (λ t. rw t refl) (λ t. rw t refl)))
