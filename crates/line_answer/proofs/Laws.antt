@@ -28,7 +28,9 @@ use Rattle.plant.specs.View.{view_plant, kept_plant}
 use Rattle.plant.specs.declared.Plant.{Plant}
 use Rattle.answers.specs.View.{view_refusal, view_answer, is_refused}
 use Rattle.answers.specs.declared.Refusal.{Refusal}
+use Rattle.std.specs.Prelude.{Result}
 use Rattle.answers.specs.declared.Answer.{Answer}
+use Rattle.answers.specs.declared.Refusal.{Refusal}
 use Rattle.line_print.specs.columns.Printed.{printed}
 use Rattle.line_print.specs.Line.{longest, taken}
 use Rattle.line_print.proofs.LineLaws.{line_short}
@@ -39,7 +41,7 @@ use Rattle.entry.specs.declared.Told.{Told}
 use Rattle.lists.proofs.Parts.{next_is, part_is}
 use Rattle.call_read_shown.proofs.Kept.{shown_count}
 use Rattle.call_read.specs.Shows.{key_at}
-use Rattle.call_read.proofs.Filled.{own_unread}
+use Rattle.entry.proofs.Filled.{own_unread}
 use Rattle.arguments.specs.Numbers.{session_number}
 use Rattle.plant.proofs.PlantLaws.{kept_parts}
 use Rattle.line_answer.specs.Answered.{Answered, Put, line_words, told_line, told_lines, refused_line}
@@ -68,7 +70,7 @@ module _ (bs lent out : List ℕ) (len : ℕ) (room : longest ≤ length lent) (
   in_front = eo ∙ fits_printed bs lent (omega (arith, room, short)) ∙ ap (λ n. bs ++ drop n lent) (sym counted)
 
 -- ── the line printed, whichever the plant ──
-pub lined : (a : Answer) (ws : List ℤ) (lent out : List ℕ) (len : ℕ) → length ws ≤ line_words
+pub lined : (a : Result Answer Refusal) (ws : List ℤ) (lent out : List ℕ) (len : ℕ) → length ws ≤ line_words
     → out ≡ printed (ended (answer_line (view_answer a) ws)) lent → len ≡ taken (ended (answer_line (view_answer a) ws)) lent → longest ≤ length lent → Put longest (ended (answer_line (view_answer a) ws)) lent out len
 lined a ws lent out len lw eo el room =
     let short = line_short a ws (omega (arith, lw)) in

@@ -9,7 +9,7 @@ ghost use Rattle.answers.specs.View.{view_refusal};
 ghost use Rattle.line_print.specs.Line.{longest};
 ghost use Rattle.line_answer.specs.Answered.{Answered, Put, told_lines, refused_line};
 
-use answers::{Answer, Refusal};
+use answers::Refusal;
 use calls::Calls;
 use entry::Told;
 use line_print::WORDS;
@@ -29,7 +29,7 @@ pub fn tell_all(n: usize, told: [Told; Calls::LIMIT], words: &[i32], out: &mut [
         }
         let t = told[i];
         let answer = t.answer;
-        let next = at + lists::lesser(WORDS, words.len() - at);
+        let next = at + WORDS.min(words.len() - at);
         wrote += line_print::answer(answer, &words[at..next], t.shown, &mut out[wrote..]);
         i += 1;
         at = next;
@@ -44,5 +44,5 @@ pub fn refuse(r: Refusal, out: &mut [u8]) -> usize
     ensures line { longest ≤ length out.old → Put longest (refused_line r) out.old out.new result }
 {
     let none = [0i32; 1];
-    line_print::answer(Answer::Refused(r), &none, 0, out)
+    line_print::answer(Err(r), &none, 0, out)
 }

@@ -14,7 +14,6 @@ use Rattle.lists.specs.Table.{counted}
 use Rattle.lists.proofs.Views.{push_room, counted-few}
 use Rattle.calls.specs.View.{view_call, view_calls, list_limit}
 use Rattle.calls.specs.declared.Call.{Call}
-use Rattle.calls.specs.declared.Item.{Item}
 use Rattle.calls.specs.declared.Calls.{Calls}
 use Rattle.entry.proofs.RunAll.{counts}
 use Rattle.line_format.specs.Bytes.{newline}
@@ -22,7 +21,7 @@ use Rattle.line_format.specs.Lines.{said, says}
 use Rattle.line_format.specs.Feeding.{has_end}
 use Rattle.line_print.specs.Line.{longest}
 use Rattle.line_parse.specs.View.{view_said}
-use Rattle.line_parse.specs.declared.Said.TheVariants as said
+use Rattle.std.specs.Prelude.{Ok, Err}
 use Rattle.line_pending.specs.View.{view_pending, pending_form, between, end_from}
 use Rattle.line_pending.proofs.Ending.{end_at, end_within, end_front, end_found}
 use Rattle.line_pending.specs.declared.Pending.{Pending}
@@ -67,13 +66,13 @@ line_more u bs (x ∷ cs) v (m, (rest, (e, (fm, (sm, h))))) l c free s w ew =
 -- ── the list ──
 -- one call more where there is room
 abbrev pub with_last : Calls → Call → Calls
-with_last calls c = record { items = set calls.items calls.count (record { call = c }); count = calls.count + 1 }
+with_last calls c = record { items = set calls.items calls.count c; count = calls.count + 1 }
 
 put_last_lem : (calls : Calls) (c : Call) → length calls.items ≡ list_limit → calls.count < list_limit → view_calls (with_last calls c) ≡ view_calls calls ++ (c ∷ [])
 unfolding view_calls pushed
 put_last_lem calls c l h =
-    let n : length (view_calls calls) < list_limit = omega (arith, h, counted-few (λ (i : Item). i.call) calls.count calls.items list_limit l h) in
-    push_room (λ (i : Item). i.call) calls.count calls.items list_limit (record { call = c }) l h refl ∙ rw (lt-ltb (length (view_calls calls)) list_limit n) refl
+    let n : length (view_calls calls) < list_limit = omega (arith, h, counted-few (λ (x : Call). x) calls.count calls.items list_limit l h) in
+    push_room (λ (x : Call). x) calls.count calls.items list_limit c l h refl ∙ rw (lt-ltb (length (view_calls calls)) list_limit n) refl
 
 pub calls_some : (calls : Calls) → length calls.items ≡ list_limit → 0 < calls.count → 0 < length (view_calls calls)
 calls_some calls l h = omega (arith, h, counts calls l)
@@ -120,7 +119,7 @@ module _ (piece : List ℕ) (used end : ℕ) (ee : end ≡ end_from used piece) 
 
   -- one that says a call, which is put last
   pub gather_call : (first : Pending) (from room : ℕ) (calls : Calls) (kept : Pending) (left : ℕ) → Gathering first piece from room calls kept used left → end < length piece → longest ≤ left
-      → (empty : Pending) → view_pending empty ≡ [] → pending_form empty ≡ true → (c : Call) → view_said (said.Says c) ≡ said (view_pending kept ++ between used end piece) → calls.count < list_limit
+      → (empty : Pending) → view_pending empty ≡ [] → pending_form empty ≡ true → (c : Call) → view_said (Ok c) ≡ said (view_pending kept ++ between used end piece) → calls.count < list_limit
       → Gathering first piece from room (with_last calls c) empty (end + 1) (left - longest)
   gather_call first from room calls kept left g found space empty ek fk c h n =
       let i = line_inside in
@@ -133,7 +132,7 @@ module _ (piece : List ℕ) (used end : ℕ) (ee : end ≡ end_from used piece) 
         none = λ z. absurd (omega (arith, z));
         some = λ z. omega (arith, a, i.0);
         inside = omega (arith, found);
-        entries = length-set calls.items calls.count (record { call = c }) ∙ g.entries;
+        entries = length-set calls.items calls.count c ∙ g.entries;
         few = omega (arith, n);
         form = λ f. fk;
       }

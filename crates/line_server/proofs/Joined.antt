@@ -28,7 +28,7 @@ use Rattle.entry.proofs.RunAll.{ran_kept, ran_form, few_calls}
 use Rattle.line_pending.specs.View.{view_pending, pending_form, between, end_from}
 use Rattle.line_pending.specs.declared.Pending.{Pending}
 use Rattle.line_parse.specs.View.{view_said}
-use Rattle.line_parse.specs.declared.Said.TheVariants as said
+use Rattle.std.specs.Prelude.{Ok, Err}
 use Rattle.line_answer.specs.Answered.{Answered, Put, line_words, told_line, told_lines, refused_line}
 use Rattle.line_answer.proofs.Laws.{told, refused, put_more, room_after, written, room_long, more_wrote}
 use Rattle.line_server.specs.Fed.{kept_server, Next}
@@ -152,7 +152,7 @@ module _ (piece lent : List ℕ) (s : Server) (out : List ℕ) (p : Plant) (call
 
   -- one line more says a call
   pub serve_call : (end : ℕ) (ee : end ≡ end_from used piece) (more : used < length piece) → end < length piece → longest ≤ left → (empty : Pending) → view_pending empty ≡ [] → pending_form empty ≡ true
-      → (c : Call) → view_said (said.Says c) ≡ said (view_pending kept ++ between used end piece) → calls.count < list_limit → Serving piece lent s out p (with_last calls c) empty (end + 1) wrote (left - longest) words
+      → (c : Call) → view_said (Ok c) ≡ said (view_pending kept ++ between used end piece) → calls.count < list_limit → Serving piece lent s out p (with_last calls c) empty (end + 1) wrote (left - longest) words
   serve_call end ee more found space empty ek fk c h n =
       record { first = x.first; from = x.from; fed = x.fed; list = gather_call piece used end ee more x.first x.from (length out - wrote) calls kept left x.list found space empty ek fk c h n; enough = x.enough }
 
@@ -168,7 +168,7 @@ module _ (piece lent : List ℕ) (s : Server) (out : List ℕ) (p : Plant) (call
 
   -- ── a line that says no call, and the rest of a piece, where it is empty ──
   module _ (z : calls.count ≡ 0) (space : longest ≤ left) (end : ℕ) (ee : end ≡ end_from used piece) (more : used < length piece) (next : Pending) where
-    pub serve_fault : end < length piece → view_pending next ≡ [] → pending_form next ≡ true → (r : Refusal) → view_said (said.Faulty r) ≡ said (view_pending kept ++ between used end piece) → (part : List ℕ) (len : ℕ)
+    pub serve_fault : end < length piece → view_pending next ≡ [] → pending_form next ≡ true → (r : Refusal) → view_said (Err r) ≡ said (view_pending kept ++ between used end piece) → (part : List ℕ) (len : ℕ)
         → (longest ≤ length (room_after wrote out) → Put longest (refused_line r) (room_after wrote out) part len) → len ≤ length (room_after wrote out) → length (written wrote out part) ≡ length out
         → Feeding piece lent s (written wrote out part) (at p next (end + 1) (wrote + len))
     serve_fault found en fn r h part len y w l =

@@ -23,7 +23,9 @@ use Rattle.plant.specs.declared.Plant.{Plant}
 use Rattle.line_pending.specs.View.{view_pending, pending_form, between}
 use Rattle.line_pending.specs.declared.Pending.{Pending}
 use Rattle.line_parse.specs.View.{view_said}
-use Rattle.line_parse.specs.declared.Said.{Said}
+use Rattle.std.specs.Prelude.{Result}
+use Rattle.calls.specs.declared.Call.{Call}
+use Rattle.answers.specs.declared.Refusal.{Refusal}
 use Rattle.line_server.specs.Fed.{kept_server, Within, Past, Next, Fed, Finished, Untouched, FormKept}
 use Rattle.line_server.specs.declared.Server.{Server}
 use Rattle.line_server.proofs.Gathering.{take-between}
@@ -44,7 +46,7 @@ kept_fits t f l = omega (arith, l, leb-true t.len line_limit f)
 pub kept_count : (t : Pending) → pending_form t ≡ true → length t.line ≡ line_limit → t.len ≡ length (take t.len t.line)
 kept_count t f l = sym (length-take-le t.len t.line (kept_fits t f l))
 
-module _ (kept : Pending) (piece : List ℕ) (from to : ℕ) (x : Said) where
+module _ (kept : Pending) (piece : List ℕ) (from to : ℕ) (x : Result Call Refusal) where
   pub all_in_piece : kept.len ≡ 0 → view_said x ≡ said (between from to piece) → view_said x ≡ said (view_pending kept ++ between from to piece)
   unfolding view_pending
   all_in_piece e h = rw e h

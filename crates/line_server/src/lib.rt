@@ -11,8 +11,8 @@ ghost use Rattle.line_pending.specs.View.{view_pending, between};
 ghost use Rattle.line_parse.specs.View.{view_said};
 ghost use Rattle.line_server.specs.Fed.{kept_server, Within, Past, Fed, Finished, Untouched, FormKept};
 
-use calls::{Calls, Item};
-use line_parse::Said;
+use answers::Refusal;
+use calls::{Call, Calls};
 use line_pending::Pending;
 use plant::Plant;
 
@@ -43,7 +43,7 @@ impl Server {
 }
 
 // What the line of what is kept and the piece's bytes from one position up to another says.
-fn heard(kept: Pending, piece: &[u8], from: usize, to: usize) -> Said
+fn heard(kept: Pending, piece: &[u8], from: usize, to: usize) -> Result<Call, Refusal>
     requires { (from ≤ to) × (to ≤ length piece.now) }
     ensures { view_said result ≡ said (view_pending kept ++ between from to piece.now) }
 {
@@ -82,15 +82,15 @@ pub fn feed(s: Server, piece: &[u8], out: &mut [u8]) -> Server
             if end < piece.len() {
                 let said = heard(kept, piece, used, end);
                 match said {
-                    Said::Says(c) => {
-                        calls.items[at] = Item { call: c };
+                    Ok(c) => {
+                        calls.items[at] = c;
                         calls.count = calls.count + 1;
                         kept = Pending::empty();
                         used = end + 1;
                         room -= line_print::LONGEST;
                         continue;
                     }
-                    Said::Faulty(r) => {
+                    Err(r) => {
                         if at == 0 {
                             wrote += line_answer::refuse(r, &mut out[wrote..]);
                             kept = Pending::empty();

@@ -3,7 +3,7 @@ use native.Mathlib.Omega.{arith}
 use mathlib.Core.Path.{subst, sym}
 use Rattle.line_format.specs.Lines.{faulty}
 use Rattle.answers.specs.View.{view_refusal}
-use Rattle.answers.specs.declared.Answer.TheVariants.{Refused}
+use Rattle.std.specs.Prelude.{Err}
 use Rattle.line_answer.specs.Answered.{Answered}
 use Rattle.line_answer.proofs.Laws.{within, lined, refused, put_front}
 use Rattle.line_answer.proofs.refuse.Goals as goal
@@ -12,7 +12,7 @@ pub returns : goal.returns
 returns c =
     let r = c.args.r in
     let e = c.answer.ensures in
-    let put = lined (Refused r) _ _ _ _ (omega arith) e.prints e.takes in
+    let put = lined (Err r) _ _ _ _ (omega arith) e.prints e.takes in
     record {
       answers = λ p room k. subst (λ b. Answered (faulty (view_refusal r)) p b p) (sym (put_front _ _ _ _ _ (put room))) (refused r p k);
       within = within _ _ _ e.takes;

@@ -16,7 +16,7 @@ use Rattle.line_answer.proofs.Laws.{written, more_wrote}
 use Rattle.line_server.proofs.Gathering.{line_inside}
 use Rattle.line_server.proofs.Laws.{feed_start, feed_end, some_of}
 use Rattle.line_server.proofs.Joined.{serve_start, serve_call, serve_run, serve_fault, serve_rest, all_served, room_all, wrote_within}
-use Rattle.line_server.proofs.feed.Goals.{After-refuse-wrote, After-tell_all-wrote, then-used-piece+then-room-ge-LONGEST+then-at-lt-LIMIT+then-end-piece+in-Faulty+else-at-eq0, then-used-piece+then-room-ge-LONGEST+then-at-lt-LIMIT+else-end-piece+else-at-eq0-2, else-used-piece, else-used-piece-via-then-used-piece+then-room-ge-LONGEST+else-at-lt-LIMIT, else-used-piece-via-then-used-piece+else-room-ge-LONGEST, else-used-piece-via-else-used-piece}
+use Rattle.line_server.proofs.feed.Goals.{After-refuse-wrote, After-tell_all-wrote, then-used-piece+then-room-ge-LONGEST+then-at-lt-LIMIT+then-end-piece+in-Err+else-at-eq0, then-used-piece+then-room-ge-LONGEST+then-at-lt-LIMIT+else-end-piece+else-at-eq0-2, else-used-piece, else-used-piece-via-then-used-piece+then-room-ge-LONGEST+else-at-lt-LIMIT, else-used-piece-via-then-used-piece+else-room-ge-LONGEST, else-used-piece-via-else-used-piece}
 use Rattle.line_server.proofs.feed.Goals as goal
 
 pub loop-used-init : goal.loop-used-init
@@ -32,13 +32,13 @@ heard-said-requires c = line_inside _ _ _ c.line_end-end.ensures c.if-used-piece
 pub overflow_sub-room : goal.overflow_sub-room
 overflow_sub-room c = c.if-room-ge-LONGEST.true
 
-pub loop-used-smaller-in-Says : goal.loop-used-smaller-in-Says
-loop-used-smaller-in-Says c = let i = line_inside _ _ _ c.line_end-end.ensures c.if-used-piece.true in omega (arith, i.0, c.if-end-piece.true)
+pub loop-used-smaller-in-Ok : goal.loop-used-smaller-in-Ok
+loop-used-smaller-in-Ok c = let i = line_inside _ _ _ c.line_end-end.ensures c.if-used-piece.true in omega (arith, i.0, c.if-end-piece.true)
 
-pub loop-used-preserved-in-Says : goal.loop-used-preserved-in-Says
-loop-used-preserved-in-Says c =
+pub loop-used-preserved-in-Ok : goal.loop-used-preserved-in-Ok
+loop-used-preserved-in-Ok c =
     serve_call _ _ _ _ _ _ _ _ _ _ _ c.loop-used.invariant _ c.line_end-end.ensures c.if-used-piece.true c.if-end-piece.true c.if-room-ge-LONGEST.true
-    _ c.empty-kept.ensures.shows c.empty-kept.ensures.form _ c.in-Says.ensures c.if-at-lt-LIMIT.true
+    _ c.empty-kept.ensures.shows c.empty-kept.ensures.form _ c.in-Ok.ensures c.if-at-lt-LIMIT.true
 
 -- ── one that says no call: its refusal is printed, some more are filled, and as many lent ──
 refused-filled : (c : After-refuse-wrote) → c.loop-used.wrote + c.refuse-wrote.result ≤ length c.loop-used.out
@@ -72,7 +72,7 @@ loop-used-preserved-then-at-eq0 c =
     let x = c.loop-used.invariant in
     let z = c.if-at-eq0.true in
     serve_start _ _ _ _ _ _ _ _
-    (serve_fault _ _ _ _ _ _ _ _ _ _ _ x z c.if-room-ge-LONGEST.true _ c.line_end-end.ensures c.if-used-piece.true _ c.if-end-piece.true c.empty-kept-then-at-eq0.ensures.shows c.empty-kept-then-at-eq0.ensures.form c.in-Faulty.r c.in-Faulty.ensures _ _ c.refuse-wrote.ensures.line c.refuse-wrote.ensures.within (refused-long (goal.at.loop-used-preserved-then-at-eq0 c).After-refuse-wrote))
+    (serve_fault _ _ _ _ _ _ _ _ _ _ _ x z c.if-room-ge-LONGEST.true _ c.line_end-end.ensures c.if-used-piece.true _ c.if-end-piece.true c.empty-kept-then-at-eq0.ensures.shows c.empty-kept-then-at-eq0.ensures.form c.in-Err.r c.in-Err.ensures _ _ c.refuse-wrote.ensures.line c.refuse-wrote.ensures.within (refused-long (goal.at.loop-used-preserved-then-at-eq0 c).After-refuse-wrote))
     _ x.list.entries z _ refl _ x.enough
 
 -- ── the rest of a piece ──
@@ -92,7 +92,7 @@ returns-then-at-eq0-3 c =
     -- there is too little room, or nothing is left
     let stops : (c.loop-used.room < longest) ⊎ (length c.args.piece.now ≤ c.loop-used.used) =
     elim c.if-used-piece.branch [
-      | then-used-piece+then-room-ge-LONGEST+then-at-lt-LIMIT+then-end-piece+in-Faulty+else-at-eq0 w ↦ absurd (w.if-at-eq0.false z)
+      | then-used-piece+then-room-ge-LONGEST+then-at-lt-LIMIT+then-end-piece+in-Err+else-at-eq0 w ↦ absurd (w.if-at-eq0.false z)
       | then-used-piece+then-room-ge-LONGEST+then-at-lt-LIMIT+else-end-piece+else-at-eq0-2 w ↦ absurd (w.if-at-eq0-2.false z)
       | else-used-piece w ↦ elim w.else-used-piece.branch [
         | else-used-piece-via-then-used-piece+then-room-ge-LONGEST+else-at-lt-LIMIT v ↦ absurd (omega (arith, z, v.if-at-lt-LIMIT.false))
