@@ -1,8 +1,7 @@
 -- An example is compared: the bytes that the rules answer to its lines with those that stand beside them.
-use Rattle.std.specs.Prelude.{ℕ, suc, ◌≡◌, Bool, cond, true, List, [], ◌∷◌, length, take, eqb}
+use Rattle.std.specs.Prelude.{ℕ, suc, ◌≡◌, Bool, cond, true, List, [], ◌∷◌, length, take, eqb, Result, Ok, Err, is_ok, IfErr}
 use Rattle.rules.specs.Tables.{Plant, setup}
 use Rattle.line_format.specs.Serving.{lines_of, Serves}
-use Rattle.examples.specs.declared.Match.{Match}
 
 -- how many first bytes of two lists are the same
 abbrev pub common : List ℕ → List ℕ → ℕ
@@ -14,14 +13,19 @@ common (b ∷ came) (a ∷ answers) = cond (eqb b a) (suc (common came answers))
 abbrev pub Exactly : Bool → Type 0 → Type 0
 Exactly b Fact = (b ≡ true → Fact) × (Fact → b ≡ true)
 
--- of the bytes that came: how many are the first of the answers, and whether all are
-pub record Matches (answers came : List ℕ) (m : Match) : Type 0 where
-  pub at : m.at ≡ common came answers
-  pub same : Exactly m.same (came ≡ take (length came) answers)
+abbrev pub counted : Result ℕ ℕ → ℕ
+counted (Ok at) = at
+counted (Err at) = at
 
--- what came is what the lines are answered with, on a plant as it is set up
-pub record Compared (lines answers : List ℕ) (m : Match) : Type 0 where
+-- of the bytes that came: how many are the first of the answers, and whether all are
+pub record Matches (answers came : List ℕ) (m : Result ℕ ℕ) : Type 0 where
+  pub at : counted m ≡ common came answers
+  pub same : Exactly (is_ok m) (came ≡ take (length came) answers)
+
+-- what the lines are answered with, on a plant as it is set up: whether it is the answers, and where not, how many first bytes are
+pub record Compared (lines answers : List ℕ) (r : Result Unit ℕ) : Type 0 where
   pub came : List ℕ
   pub plant : Plant
   pub serves : Serves (lines_of lines) setup came plant
-  pub tells : Matches answers came m
+  pub same : Exactly (is_ok r) (came ≡ answers)
+  pub at : IfErr r (λ n. n ≡ common came answers)

@@ -2,8 +2,8 @@
 // be cut anywhere, and the answers are compared with those that stand beside the lines.
 #![tactic(auto)]
 
-ghost use Rattle.std.specs.Prelude.{ℕ, ◌≤◌, ◌<◌, ◌≡◌, List, [], ◌++◌, length};
-ghost use Rattle.examples.specs.Comparison.{Exactly, Matches, Compared};
+ghost use Rattle.std.specs.Prelude.{ℕ, ◌<◌, List, ◌++◌, Ok};
+ghost use Rattle.examples.specs.Comparison.{Matches, Compared};
 
 use line_server::Server;
 use std::rt::Files;
@@ -11,213 +11,119 @@ use std::{fs, io};
 
 const ROOM: usize = 65536;
 
-fn answer_buffer() -> [u8; ROOM]
-    ensures { 65536 ≡ length result }
+// The examples, each with the size of its pieces.
+const EXAMPLES: [(&str, usize); 26] = [
+    // lines
+    ("paper", 4096),
+    ("line-forms", 1),
+    ("empty", 65536),
+    // replies
+    ("lost-reply", 2),
+    ("lost-reply-cut", 3),
+    ("two-hands", 5),
+    // mistakes
+    ("swept-too-soon", 7),
+    ("cached-past-the-buffer", 11),
+    ("doomed-for-nothing", 13),
+    ("lapsed-commit", 26),
+    // limits
+    ("store-away", 27),
+    ("newest-booking", 37),
+    ("full-buffer", 64),
+    ("full-rows", 100),
+    ("rows-passed-over", 29),
+    // cached keys
+    ("full-cache", 122),
+    ("cached-again", 17),
+    ("oldest-updated", 19),
+    // rules
+    ("leases", 123),
+    ("fields", 124),
+    ("recalled-lot", 51),
+    ("refusals", 256),
+    ("refusal-order", 1000),
+    // differences: the answers of these are wrong on purpose
+    ("differs-byte", 9),
+    ("differs-short", 4096),
+    ("differs-long", 1),
+];
+
+// How many of the answers have come, once the bytes of out come after the first `at`; or, where a byte is not the next one, after how many.
+fn add(answers: &[u8], mut at: usize, out: &[u8]) -> Result<usize, usize>
+    ensures { (came : List ℕ) → Matches answers.now came (Ok at) → Matches answers.now (came ++ out.now) result }
 {
-    [0; ROOM]
-}
-
-// How many of the bytes that have come are the first of the answers, and whether all are.
-#[derive(Clone, Copy)]
-struct Match {
-    at: usize,
-    same: bool,
-}
-
-impl Match {
-    // Nothing has come.
-    fn start() -> Self
-        ensures { (answers : List ℕ) → Matches answers [] result }
-    {
-        Match { at: 0, same: true }
-    }
-
-    // The bytes of out come.
-    fn add(self, answers: &[u8], out: &[u8]) -> Self
-        ensures { (came : List ℕ) → Matches answers.now came self → Matches answers.now (came ++ out.now) result }
-    {
-        if !self.same {
-            return self;
+    for b in out {
+        if answers.get(at) != Some(b) {
+            return Err(at);
         }
-        let mut at = self.at;
-        let mut i: usize = 0;
-        while i < out.len() {
-            if answers.len() <= at {
-                return Match { at, same: false }; // a byte too many
-            }
-            if out[i] != answers[at] {
-                return Match { at, same: false }; // another byte
-            }
-            at += 1;
-            i += 1;
-        }
-        Match { at, same: true }
+        at += 1;
     }
-
-    // Whether what has come is the answers, no byte less and no byte more.
-    fn whole(self, answers: &[u8]) -> bool
-        ensures { (came : List ℕ) → Matches answers.now came self → Exactly result (came ≡ answers.now) }
-    {
-        self.same && self.at == answers.len()
-    }
+    Ok(at)
 }
 
-fn end_of_piece(at: usize, size: usize, end: usize) -> usize
-    requires at_lt_end { at < end }
-    requires size_nonzero { 0 < size }
-    ensures lower_bound { at < result }
-    ensures upper_bound { result ≤ end }
-{
-    if end - at < size {
-        return end;
-    }
-    at + size
-}
-
-fn serve(lines: &[u8], size: usize, answers: &[u8]) -> Match
+// Whether the lines are answered with the answers, no byte less and no byte more; or after how many bytes they differ.
+fn serve(lines: &[u8], size: usize, answers: &[u8]) -> Result<(), usize>
     requires { 0 < size }
     ensures { Compared lines.now answers.now result }
 {
-    let mut out = answer_buffer();
+    let mut out = [0; ROOM];
     let mut server = Server::start();
-    let mut matched = Match::start();
-    let mut at: usize = 0;
-    while at < lines.len() {
-        let end = end_of_piece(at, size, lines.len());
-        server = line_server::feed(server, &lines[at..end], &mut out);
-        at += server.used;
-        let wrote = server.wrote;
-        matched = matched.add(answers, &out[..wrote]);
+    let mut at = 0;
+    let mut rest = lines;
+    while !rest.is_empty() {
+        let piece = &rest[..size.min(rest.len())];
+        server = line_server::feed(server, piece, &mut out);
+        at = add(answers, at, &out[..server.wrote])?;
+        rest = &rest[server.used..];
     }
     server = line_server::finish(server, &mut out);
-    let wrote = server.wrote;
-    matched.add(answers, &out[..wrote])
+    at = add(answers, at, &out[..server.wrote])?;
+    if at == answers.len() { Ok(()) } else { Err(at) }
 }
 
-// Where standard output takes nothing more, the examples that are left are compared and not told.
-fn say(rt: &impl Print, name: &str, same: bool, at: usize) {
-    let _ = if same {
-        println!(rt; "{name} same")
-    } else {
-        println!(rt; "{name} differs at byte {at}")
-    };
-}
-
-// The system's words for an error, of which `Display` adds the number.
+// The system's words for an error, of which `Display` adds the number. It stands in kagbitu too: no crate below both is about errors.
 fn without_number(text: &str) -> &str {
-    match text.rsplit_once(" (os error ") {
-        Some((words, _)) => words,
-        None => text,
-    }
+    text.rsplit_once(" (os error ")
+        .map_or(text, |(words, _)| words)
 }
 
 // Says on standard error why a file of an example is not read. Where no memory is left, the number stays.
 fn unread(rt: &(impl Eprint + AllocGlobal), name: &str, error: io::Error) {
     let _ = match error.to_string(rt.alloc()) {
-        Ok(text) => {
-            let words = without_number(text.as_str());
-            eprintln!(rt; "{name}: {words}")
-        }
+        Ok(text) => eprintln!(rt; "{name}: {}", without_number(text.as_str())),
         Err(_) => eprintln!(rt; "{name}: {error}"),
     };
 }
 
-fn compare(rt: &impl Print, name: &str, lines: &[u8], answers: &[u8], size: usize)
-    requires { 0 < size }
-{
-    let matched = serve(lines, size, answers);
-    say(rt, name, matched.whole(answers), matched.at);
+// The bytes of a file of an example; where it is not read, why not is said.
+fn read(rt: &(impl Files + Eprint + AllocGlobal), name: &str) -> Option<Vec<u8>> {
+    fs::read(rt, name)
+        .map_err(|error| unread(rt, name, error))
+        .ok()
 }
 
+// Where standard output takes nothing more, the examples that are left are compared and not told.
 fn example(
     rt: &(impl Files + Print + Eprint + AllocGlobal),
     lines: &str,
     answers: &str,
     size: usize,
-)
+) -> Option<()>
     requires { 0 < size }
 {
-    let given = match fs::read(rt, lines) {
-        Ok(given) => given,
-        Err(error) => {
-            unread(rt, lines, error);
-            return;
-        }
-    };
-    let expected = match fs::read(rt, answers) {
-        Ok(expected) => expected,
-        Err(error) => {
-            unread(rt, answers, error);
-            return;
-        }
-    };
-    compare(rt, lines, given.as_slice(), expected.as_slice(), size);
+    let given = read(rt, lines)?;
+    let expected = read(rt, answers)?;
+    match serve(given.as_slice(), size, expected.as_slice()) {
+        Ok(()) => println!(rt; "{lines} same").ok(),
+        Err(at) => println!(rt; "{lines} differs at byte {at}").ok(),
+    }
 }
 
-fn lines(rt: &(impl Files + Print + Eprint + AllocGlobal)) {
-    example(rt, "paper.lines", "paper.answers", 4096);
-    example(rt, "line-forms.lines", "line-forms.answers", 1);
-    example(rt, "empty.lines", "empty.answers", 65536);
-}
-
-fn replies(rt: &(impl Files + Print + Eprint + AllocGlobal)) {
-    example(rt, "lost-reply.lines", "lost-reply.answers", 2);
-    example(rt, "lost-reply-cut.lines", "lost-reply-cut.answers", 3);
-    example(rt, "two-hands.lines", "two-hands.answers", 5);
-}
-
-fn mistakes(rt: &(impl Files + Print + Eprint + AllocGlobal)) {
-    example(rt, "swept-too-soon.lines", "swept-too-soon.answers", 7);
-    example(
-        rt,
-        "cached-past-the-buffer.lines",
-        "cached-past-the-buffer.answers",
-        11,
-    );
-    example(
-        rt,
-        "doomed-for-nothing.lines",
-        "doomed-for-nothing.answers",
-        13,
-    );
-    example(rt, "lapsed-commit.lines", "lapsed-commit.answers", 26);
-}
-
-fn limits(rt: &(impl Files + Print + Eprint + AllocGlobal)) {
-    example(rt, "store-away.lines", "store-away.answers", 27);
-    example(rt, "newest-booking.lines", "newest-booking.answers", 37);
-    example(rt, "full-buffer.lines", "full-buffer.answers", 64);
-    example(rt, "full-rows.lines", "full-rows.answers", 100);
-    example(rt, "rows-passed-over.lines", "rows-passed-over.answers", 29);
-}
-
-fn cached_keys(rt: &(impl Files + Print + Eprint + AllocGlobal)) {
-    example(rt, "full-cache.lines", "full-cache.answers", 122);
-    example(rt, "cached-again.lines", "cached-again.answers", 17);
-    example(rt, "oldest-updated.lines", "oldest-updated.answers", 19);
-}
-
-fn rules(rt: &(impl Files + Print + Eprint + AllocGlobal)) {
-    example(rt, "leases.lines", "leases.answers", 123);
-    example(rt, "fields.lines", "fields.answers", 124);
-    example(rt, "recalled-lot.lines", "recalled-lot.answers", 51);
-    example(rt, "refusals.lines", "refusals.answers", 256);
-    example(rt, "refusal-order.lines", "refusal-order.answers", 1000);
-}
-
-// The answers of these are wrong on purpose.
-fn differences(rt: &(impl Files + Print + Eprint + AllocGlobal)) {
-    example(rt, "differs-byte.lines", "differs-byte.answers", 9);
-    example(rt, "differs-short.lines", "differs-short.answers", 4096);
-    example(rt, "differs-long.lines", "differs-long.answers", 1);
-}
-
-fn main(rt: HostRuntime) {
-    lines(&rt);
-    replies(&rt);
-    mistakes(&rt);
-    limits(&rt);
-    cached_keys(&rt);
-    rules(&rt);
-    differences(&rt);
+fn main(rt: HostRuntime) -> io::Result<()> {
+    for (name, size) in EXAMPLES {
+        let lines = format!(in rt.alloc(); "{name}.lines")?;
+        let answers = format!(in rt.alloc(); "{name}.answers")?;
+        example(&rt, lines.as_str(), answers.as_str(), size);
+    }
+    Ok(())
 }

@@ -1,20 +1,33 @@
 -- `serve` meets its contract: the lines are served piece by piece, and at their end the line that has begun.
-use Rattle.std.proofs.Common.{◌-◌, arith}
-use Rattle.std.proofs.lemmas.Grind.{common_steps}
-use Rattle.examples.proofs.Laws.{going-none, going, compared}
+use Rattle.std.proofs.Common.{arith}
+use Rattle.std.proofs.lemmas.Result.{err_from_is_err_and}
+use Rattle.examples.proofs.Laws.{going-none, going, early, late, all_same, too_few}
 use Rattle.examples.proofs.serve.Goals as goal
 
-pub loop-at-init : goal.loop-at-init
-loop-at-init c =
-    let s = c.start-server.ensures in
-    record { within = omega arith; room = omega arith; going = going-none _ _ _ _ s.shows s.empty s.kept (c.start-matched.ensures _) }
+pub loop-rest-init : goal.loop-rest-init
+loop-rest-init c = let s = c.start-server.ensures in going-none _ _ _ s.shows s.empty s.kept
 
-pub loop-at-preserved : goal.loop-at-preserved
-loop-at-preserved c =
+pub loop-rest-preserved : goal.loop-rest-preserved
+loop-rest-preserved c =
+    let l = c.loop-rest in
     let f = c.feed-server.ensures in
-    let l = c.loop-at in
-    let size = c.end_of_piece-end.result - l.at in
-    record { within = grind (arith, common_steps); room = omega arith; going = going _ _ _ _ _ l.invariant.going _ _ _ c.add-matched.ensures size f.feeds f.within.0 }
+    going _ _ _ _ _ l.invariant _ _ _ f.feeds f.within.0 _ c.in_ok-at.ensures _ (omega arith)
 
-pub returns : goal.returns
-returns c = compared _ _ _ _ _ c.loop-at.invariant.going _ _ _ c.add.ensures c.loop-at-test.false (c.finish-server.ensures.serves (omega arith))
+pub returns-in_err-at : goal.returns-in_err-at
+returns-in_err-at c =
+    let f = c.feed-server.ensures in
+    let p = err_from_is_err_and c.from_residual.result c.from_residual.ensures.1 in
+    rw (p.1, p.2) (early _ _ _ _ _ c.loop-rest.invariant _ _ _ f.feeds f.within.0 _ c.in_err-at.ensures)
+
+pub returns-in_err-at-2 : goal.returns-in_err-at-2
+returns-in_err-at-2 c =
+    let p = err_from_is_err_and c.from_residual-in_err-at-2.result c.from_residual-in_err-at-2.ensures.1 in
+    rw (p.1, p.2) (late _ _ _ _ _ c.loop-rest.invariant _ _ c.loop-rest-test.ensures (c.finish-server.ensures.serves (omega arith)) _ c.in_err-at-2.ensures)
+
+pub returns-then-at-answers : goal.returns-then-at-answers
+returns-then-at-answers c =
+    all_same _ _ _ _ _ c.loop-rest.invariant _ _ c.loop-rest-test.ensures (c.finish-server.ensures.serves (omega arith)) _ c.in_ok-at-2.ensures c.if-at-answers.true
+
+pub returns-else-at-answers : goal.returns-else-at-answers
+returns-else-at-answers c =
+    too_few _ _ _ _ _ c.loop-rest.invariant _ _ c.loop-rest-test.ensures (c.finish-server.ensures.serves (omega arith)) _ c.in_ok-at-2.ensures c.if-at-answers.false

@@ -1,11 +1,11 @@
--- `serve` meets its contract: the bytes of the lines up to `at` are served, and the match tells of what was answered to them. Each turn uses a byte at least.
-use Rattle.std.proofs.Common.{length, ◌-◌, ◌≤◌, ◌≡◌}
+-- `serve` meets its contract: the bytes of the lines before the rest are served, and what was answered to them are the first bytes of the answers.
+-- Each turn uses a byte at least.
+use Rattle.std.proofs.Common.{length}
 use Rattle.examples.proofs.Laws.{Going}
 use Rattle.examples.proofs.serve.Given as goal
 
-abbrev pub invariant-loop-at : goal.invariant-loop-at
-invariant-loop-at l =
-    record { within : l.at ≤ length l.lines; room : 65536 ≡ length l.out; going : Going l.lines l.answers l.at l.server l.matched }
+abbrev pub invariant-loop-rest : goal.invariant-loop-rest
+invariant-loop-rest l = Going l.lines l.answers l.rest l.server l.at
 
-abbrev pub decreases-loop-at : goal.decreases-loop-at
-decreases-loop-at l = length l.lines - l.at
+abbrev pub decreases-loop-rest : goal.decreases-loop-rest
+decreases-loop-rest l = length l.rest
