@@ -2,7 +2,7 @@
 // 600 of 10,000 kilos are drawn, the reply of the worker that carries them is lost, and a second worker does not draw them again.
 #![tactic(auto)]
 
-use answers::Answer;
+use answers::{Answer, Refusal};
 use calls::Call;
 use entry::Outcome;
 use plant::Plant;
@@ -39,71 +39,51 @@ const WORDS: usize = 8;
 const VALUE: usize = 2;
 
 // Where standard output takes nothing more, the calls go on: they are what is shown here.
-fn write(rt: &impl Print, text: &str) {
-    let _ = print!(rt; "{text}");
-}
-
-fn say(rt: &impl Print, text: &str, number: u64) {
-    let _ = print!(rt; "{text}{number}");
-}
-
-fn wide(number: u8) -> u64 {
-    number as u64
-}
-
-fn tell(rt: &impl Print, answer: Answer) {
-    match answer {
-        Answer::Refused(refusal) => say(rt, "refused by ", wide(refusal.number())),
-        Answer::Done => write(rt, "done"),
-        Answer::Begun(session) => say(rt, "session ", session as u64),
-        Answer::Read(mark) => say(rt, "mark ", wide(mark.number())),
-        Answer::Changed(changes) => say(rt, "changes now ", wide(changes)),
-        Answer::Committed(buffered) => say(rt, "buffered now ", wide(buffered)),
-        Answer::Advanced(clock) => say(rt, "clock ", clock),
-        Answer::Taken(session) => say(rt, "session ", session as u64),
-        Answer::Applied(reply) => say(rt, "reply ", wide(reply.number())),
-        Answer::Deleted(found) => say(rt, "removed ", found as u64),
-        Answer::Swept(rows) => say(rt, "rows removed ", wide(rows)),
-        Answer::Reported(shared, exclusive, changes) => {
-            say(rt, "shared ", wide(shared));
-            say(rt, ", exclusive ", wide(exclusive));
-            say(rt, ", changes ", wide(changes));
+fn tell(rt: &impl Print, name: &str, answer: Result<Answer, Refusal>) {
+    let _ = match answer {
+        Err(refusal) => println!(rt; "{name}: refused by {}", refusal.number()),
+        Ok(Answer::Done) => println!(rt; "{name}: done"),
+        Ok(Answer::Begun(session)) => println!(rt; "{name}: session {session}"),
+        Ok(Answer::Read(mark)) => println!(rt; "{name}: mark {}", mark.number()),
+        Ok(Answer::Changed(changes)) => println!(rt; "{name}: changes now {changes}"),
+        Ok(Answer::Committed(buffered)) => println!(rt; "{name}: buffered now {buffered}"),
+        Ok(Answer::Advanced(clock)) => println!(rt; "{name}: clock {clock}"),
+        Ok(Answer::Taken(session)) => println!(rt; "{name}: session {session}"),
+        Ok(Answer::Applied(reply)) => println!(rt; "{name}: reply {}", reply.number()),
+        Ok(Answer::Deleted(found)) => println!(rt; "{name}: removed {}", u8::from(found)),
+        Ok(Answer::Swept(rows)) => println!(rt; "{name}: rows removed {rows}"),
+        Ok(Answer::Reported(shared, exclusive, changes)) => {
+            println!(rt; "{name}: shared {shared}, exclusive {exclusive}, changes {changes}")
         }
-    }
+    };
 }
 
 // Makes a call and tells its answer.
 fn made(rt: &impl Print, name: &str, p: Plant, c: Call, words: &mut [i32]) -> Outcome {
     let outcome = entry::run(p, c, words);
-    let answer = outcome.answer;
-    write(rt, name);
-    write(rt, ": ");
-    tell(rt, answer);
-    write(rt, "\n");
+    tell(rt, name, outcome.answer);
     outcome
 }
 
-// The same, for whoever needs only the plant that is left. A call that is no read needs no words.
-fn after(rt: &impl Print, name: &str, p: Plant, c: Call) -> Plant {
-    let mut none: [i32; 0] = [];
-    let outcome = made(rt, name, p, c, &mut none);
-    outcome.plant
+// The same of several calls, for whoever needs only the plant that is left. Calls that are no reads need no words.
+fn after(rt: &impl Print, mut p: Plant, calls: &[(&str, Call)]) -> Plant {
+    for (name, call) in calls {
+        p = made(rt, name, p, *call, &mut []).plant;
+    }
+    p
 }
 
 fn set_up(rt: &impl Print) -> Plant {
-    let mut p = Plant::empty();
-    p = after(rt, "load", p, Call::Load(FLOUR, KILOS, SET, STOCK));
-    after(
-        rt,
-        "map",
-        p,
-        Call::Map(KEY, 1, FLOUR, KILOS, 0, 0, 0, 0, 0, 0),
-    )
+    let calls = [
+        ("load", Call::Load(FLOUR, KILOS, SET, STOCK)),
+        ("map", Call::Map(KEY, 1, FLOUR, KILOS, 0, 0, 0, 0, 0, 0)),
+    ];
+    after(rt, Plant::empty(), &calls)
 }
 
 // A session's number, from the answer to its begin; 0, which no session has, from any other.
-fn session_of(answer: Answer) -> i64 {
-    if let Answer::Begun(session) = answer {
+fn session_of(answer: Result<Answer, Refusal>) -> i64 {
+    if let Ok(Answer::Begun(session)) = answer {
         session as i64
     } else {
         0
@@ -111,52 +91,43 @@ fn session_of(answer: Answer) -> i64 {
 }
 
 fn drawn(rt: &impl Print, p: Plant) -> Plant {
-    let mut none: [i32; 0] = [];
-    let begun = made(rt, "begin", p, Call::Begin, &mut none);
-    let answer = begun.answer;
-    let session = session_of(answer);
-    let mut q = begun.plant;
-    q = after(
-        rt,
-        "change",
-        q,
-        Call::Change(session, FLOUR, KILOS, INC, DRAW),
-    );
-    q = after(rt, "report", q, Call::Report(session));
-    q = after(rt, "commit", q, Call::Commit(session));
-    after(rt, "commit", q, Call::Commit(session))
+    let begun = made(rt, "begin", p, Call::Begin, &mut []);
+    let session = session_of(begun.answer);
+    let calls = [
+        ("change", Call::Change(session, FLOUR, KILOS, INC, DRAW)),
+        ("report", Call::Report(session)),
+        ("commit", Call::Commit(session)),
+        ("commit", Call::Commit(session)),
+    ];
+    after(rt, begun.plant, &calls)
 }
 
 fn carried(rt: &impl Print, p: Plant) -> Plant {
-    let mut q = p;
-    q = after(rt, "take", q, Call::Take(0));
-    q = after(rt, "apply", q, Call::Apply(0, REPLY_LOST));
-    q = after(rt, "advance", q, Call::Advance(LEASE));
-    q = after(rt, "take", q, Call::Take(1));
-    q = after(rt, "apply", q, Call::Apply(1, REPLY_ARRIVES));
-    q = after(rt, "delete", q, Call::Delete(1));
-    q = after(rt, "cut", q, Call::Cut(0));
-    after(rt, "sweep", q, Call::Sweep)
+    let calls = [
+        ("take", Call::Take(0)),
+        ("apply", Call::Apply(0, REPLY_LOST)),
+        ("advance", Call::Advance(LEASE)),
+        ("take", Call::Take(1)),
+        ("apply", Call::Apply(1, REPLY_ARRIVES)),
+        ("delete", Call::Delete(1)),
+        ("cut", Call::Cut(0)),
+        ("sweep", Call::Sweep),
+    ];
+    after(rt, p, &calls)
 }
 
 // Whoever has only the entry learns a stock by a read, from the words that it fills.
 fn read(rt: &impl Print, p: Plant) {
-    let mut words: [i32; WORDS] = [0; WORDS];
+    let mut words = [0; WORDS];
     let begun = made(rt, "begin", p, Call::Begin, &mut words);
-    let answer = begun.answer;
-    let session = session_of(answer);
-    made(
-        rt,
-        "read",
-        begun.plant,
-        Call::Read(session, KEY),
-        &mut words,
-    );
-    if words[VALUE] == LEFT {
-        write(rt, "the draw stands once\n");
+    let session = session_of(begun.answer);
+    let call = Call::Read(session, KEY);
+    made(rt, "read", begun.plant, call, &mut words);
+    let _ = if words[VALUE] == LEFT {
+        println!(rt; "the draw stands once")
     } else {
-        write(rt, "the stock is another\n");
-    }
+        println!(rt; "the stock is another")
+    };
 }
 
 fn main(rt: HostRuntime) {
