@@ -225,12 +225,12 @@ module _ (lines answers rest : List ℕ) (s : Server) (at : ℕ) (g : Going line
     too_few at' told = missing lines answers _ _ ended at' (told g.came g.tells)
 
 -- ── a table of which every entry has a size ──
-unfoldable pub all_sized : List (Bor (List ℕ) × ℕ) → Bool
+unfoldable pub all_sized : List (Bor (List ℕ) × Bor (List ℕ) × ℕ) → Bool
 all_sized [] = true
-all_sized (e ∷ es) = ltb 0 e.1 && all_sized es
+all_sized (e ∷ es) = ltb 0 e.2 && all_sized es
 
-pub sized : (es : List (Bor (List ℕ) × ℕ)) (i : ℕ) (d : Bor (List ℕ) × ℕ) → all_sized es ≡ true → i < length es → 0 < (get_or es i d).1
+pub sized : (es : List (Bor (List ℕ) × Bor (List ℕ) × ℕ)) (i : ℕ) (d : Bor (List ℕ) × Bor (List ℕ) × ℕ) → all_sized es ≡ true → i < length es → 0 < (get_or es i d).2
 unfolding all_sized
 sized [] i d s h = absurd (omega arith)
-sized (e ∷ es) zero d s h = ltb-true 0 e.1 (and_true (ltb 0 e.1) (all_sized es) s).0
-sized (e ∷ es) (suc i) d s h = sized es i d (and_true (ltb 0 e.1) (all_sized es) s).1 (omega arith)
+sized (e ∷ es) zero d s h = ltb-true 0 e.2 (and_true (ltb 0 e.2) (all_sized es) s).0
+sized (e ∷ es) (suc i) d s h = sized es i d (and_true (ltb 0 e.2) (all_sized es) s).1 (omega arith)

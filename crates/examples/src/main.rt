@@ -11,41 +11,45 @@ use std::{fs, io};
 
 const ROOM: usize = 65536;
 
-// The examples, each with the size of its pieces.
-const EXAMPLES: [(&str, usize); 26] = [
+// The examples, each with the size of its pieces. Both names of each are written out: a name that was made could find no memory.
+const EXAMPLES: [(&str, &str, usize); 26] = [
     // lines
-    ("paper", 4096),
-    ("line-forms", 1),
-    ("empty", 65536),
+    ("paper.lines", "paper.answers", 4096),
+    ("line-forms.lines", "line-forms.answers", 1),
+    ("empty.lines", "empty.answers", 65536),
     // replies
-    ("lost-reply", 2),
-    ("lost-reply-cut", 3),
-    ("two-hands", 5),
+    ("lost-reply.lines", "lost-reply.answers", 2),
+    ("lost-reply-cut.lines", "lost-reply-cut.answers", 3),
+    ("two-hands.lines", "two-hands.answers", 5),
     // mistakes
-    ("swept-too-soon", 7),
-    ("cached-past-the-buffer", 11),
-    ("doomed-for-nothing", 13),
-    ("lapsed-commit", 26),
+    ("swept-too-soon.lines", "swept-too-soon.answers", 7),
+    (
+        "cached-past-the-buffer.lines",
+        "cached-past-the-buffer.answers",
+        11,
+    ),
+    ("doomed-for-nothing.lines", "doomed-for-nothing.answers", 13),
+    ("lapsed-commit.lines", "lapsed-commit.answers", 26),
     // limits
-    ("store-away", 27),
-    ("newest-booking", 37),
-    ("full-buffer", 64),
-    ("full-rows", 100),
-    ("rows-passed-over", 29),
+    ("store-away.lines", "store-away.answers", 27),
+    ("newest-booking.lines", "newest-booking.answers", 37),
+    ("full-buffer.lines", "full-buffer.answers", 64),
+    ("full-rows.lines", "full-rows.answers", 100),
+    ("rows-passed-over.lines", "rows-passed-over.answers", 29),
     // cached keys
-    ("full-cache", 122),
-    ("cached-again", 17),
-    ("oldest-updated", 19),
+    ("full-cache.lines", "full-cache.answers", 122),
+    ("cached-again.lines", "cached-again.answers", 17),
+    ("oldest-updated.lines", "oldest-updated.answers", 19),
     // rules
-    ("leases", 123),
-    ("fields", 124),
-    ("recalled-lot", 51),
-    ("refusals", 256),
-    ("refusal-order", 1000),
+    ("leases.lines", "leases.answers", 123),
+    ("fields.lines", "fields.answers", 124),
+    ("recalled-lot.lines", "recalled-lot.answers", 51),
+    ("refusals.lines", "refusals.answers", 256),
+    ("refusal-order.lines", "refusal-order.answers", 1000),
     // differences: the answers of these are wrong on purpose
-    ("differs-byte", 9),
-    ("differs-short", 4096),
-    ("differs-long", 1),
+    ("differs-byte.lines", "differs-byte.answers", 9),
+    ("differs-short.lines", "differs-short.answers", 4096),
+    ("differs-long.lines", "differs-long.answers", 1),
 ];
 
 // How many of the answers have come, once the bytes of out come after the first `at`; or, where a byte is not the next one, after how many.
@@ -119,11 +123,8 @@ fn example(
     }
 }
 
-fn main(rt: HostRuntime) -> io::Result<()> {
-    for (name, size) in EXAMPLES {
-        let lines = format!(in rt.alloc(); "{name}.lines")?;
-        let answers = format!(in rt.alloc(); "{name}.answers")?;
-        example(&rt, lines.as_str(), answers.as_str(), size);
+fn main(rt: HostRuntime) {
+    for (lines, answers, size) in EXAMPLES {
+        example(&rt, lines, answers, size);
     }
-    Ok(())
 }
