@@ -38,10 +38,12 @@ const ADD: u8 = 4;
 
 const PUSH: u8 = 5;
 
-// The ends of a number's range.
+// The ends of a number's range, which are those of its type.
 pub const LOWEST: i64 = -2147483648;
 
 pub const HIGHEST: i64 = 2147483647;
+
+const _: () = prove!(LOWEST == i32::MIN as i64 && HIGHEST == i32::MAX as i64);
 
 // Where the kind, the count and the values stand among a field's words.
 const KIND_AT: usize = 0;
