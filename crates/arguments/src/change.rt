@@ -1,6 +1,6 @@
 // A caller's numbers read as places and changes, and the refusal of a change.
 ghost use Rattle.std.specs.Prelude.{◌≡◌, true, ◌&&◌, cond, is_some, IfSome, Some, None};
-ghost use Rattle.rules.specs.Values.{nat_of};
+ghost use Rattle.rules.specs.Values.{in_range, nat_of};
 ghost use Rattle.rules.specs.Changes.{kind_of, meets, good_kind, good_value, place_of, update_of};
 ghost use Rattle.rules.specs.Conditions.{good_place, good_change};
 ghost use Rattle.keys.specs.View.{view_place};
@@ -24,6 +24,13 @@ pub fn place(document: i64, field: i64) -> Option<Place>
     let document = crate::index(document, docset::DOCUMENTS)?;
     let field = crate::index(field, Place::FIELDS)?;
     Some(Place { document, field })
+}
+
+// Is it a place within the stock?
+pub fn is_within(q: Place) -> bool
+    ensures { result ≡ in_range (view_place q) }
+{
+    q.document < docset::DOCUMENTS && q.field < Place::FIELDS
 }
 
 // The number of a change's kind.

@@ -1,13 +1,15 @@
 // The places that a map names: its four pairs, and the key that they make.
 ghost use Rattle.std.specs.Prelude.{◌≡◌, ◌≤◌, true, is_some, IfSome};
 ghost use Rattle.rules.specs.Limits.{place_limit};
+ghost use Rattle.rules.specs.Lists.{all};
+ghost use Rattle.rules.specs.Values.{in_range};
 ghost use Rattle.rules.specs.Calls.{places_of};
 ghost use Rattle.rules.specs.Conditions.{good_pairs};
 ghost use Rattle.keys.specs.View.{view_key};
 ghost use Rattle.keys.specs.Form.{key_form};
 ghost use Rattle.arguments.specs.places.View.{pairs, view_places, has_stray, key_of};
 
-use crate::change::place;
+use crate::change::{is_within, place};
 use keys::{Key, Place};
 
 // The places of a map's four pairs, those in use first.
@@ -38,6 +40,12 @@ impl Places {
             place(d4, f4)?,
         ];
         Some(Self { all })
+    }
+
+    pub fn are_within(self) -> bool
+        ensures { result ≡ all in_range (view_places self) }
+    {
+        self.all.iter().all(|q| is_within(*q))
     }
 
     // A place from a number on is not zero.
