@@ -160,6 +160,11 @@ module _ (p : Plant) (n : ℕ) where
       both_form fs fr f = form_with_rows _ r fr (form_with_store p s fs f)
 
 -- ── the plant left ──
+only_lost : (f : Fate) → (f ≡ Unreached → ⊥) → (f ≡ Arrives → ⊥) → f ≡ Lost
+only_lost Arrives u a = absurd (a refl)
+only_lost Lost u a = refl
+only_lost Unreached u a = absurd (u refl)
+
 module _ (p : Plant) (z y : ℤ) (fy : SFits w64 y) (o : Result Fate Refusal) (gf : FateOf (held y) o) (f : Fate) (ef : f ≡ result_unwrap_or o Unreached) where
   fate_is : good_fate y ≡ true → fate_of y ≡ view_fate f
   fate_is t = go o (subst (λ (x : ℤ). FateOf x o) (to_z-of_z fy) gf) ef
@@ -197,10 +202,11 @@ module _ (p : Plant) (z y : ℤ) (fy : SFits w64 y) (o : Result Fate Refusal) (g
     handed_at : below z worker_count ≡ true → n ≡ handed (view_hands p.hands (nat_of z))
     handed_at g = en ∙ ap handed eh ∙ rw (index_is z fz worker_count w ew g) refl
 
-    pub reply_lost : f ≡ Lost → Performs (Apply z y) p (left p t)
+    pub reply_lost : (f ≡ Unreached → ⊥) → (f ≡ Arrives → ⊥) → Performs (Apply z y) p (left p t)
     unfolding applied view_plant
-    reply_lost e kept lent h =
+    reply_lost u a kept lent h =
         let k = known lent h in
+        let e = only_lost f u a in
         k.leaves _ (et kept ∙ rw (k.fate, e, handed_at k.worker) refl)
 
     module _ (e : f ≡ Arrives) (heard : Hand) (er : view_hand heard ≡ holds (handed (view_hand hand)) true)

@@ -93,20 +93,17 @@ fn carry(p: Plant, n: u32) -> Left
     ensures shows { kept_plant p ≡ true → view_plant (left p result) ≡ cond (no_row_for (view_rows p.rows) n) (view_plant p) (carried n (view_plant p)) }
     ensures form { plant_form p ≡ true → plant_form (left p result) ≡ true }
 {
-    let full = Rows::LIMIT <= p.rows.len() as usize;
-    if full || p.rows.has(n) {
-        return Left {
-            store: p.store,
-            rows: p.rows,
-            hands: p.hands,
-        };
+    let store = p.store;
+    let rows = p.rows;
+    let hands = p.hands;
+    let full = Rows::LIMIT <= rows.len() as usize;
+    if full || rows.has(n) {
+        return Left { store, rows, hands };
     }
     let changes = p.buffer.changes_of(n);
-    Left {
-        store: p.store.follow(changes),
-        rows: p.rows.push(n),
-        hands: p.hands,
-    }
+    let store = store.follow(changes);
+    let rows = rows.push(n);
+    Left { store, rows, hands }
 }
 
 pub fn after(p: Plant, worker: i64, fate: i64) -> Left
@@ -115,18 +112,18 @@ pub fn after(p: Plant, worker: i64, fate: i64) -> Left
 {
     let w = arguments::index(worker, Hands::LIMIT as u8).unwrap_or(Hands::LIMIT as u8);
     let fate = Fate::try_from(fate).unwrap_or(Fate::Unreached);
-    let hand = p.hands.hand(w);
-    match fate {
-        Fate::Arrives => {
-            let mut t = carry(p, hand.handed());
-            t.hands = t.hands.with(w, hand.answered());
-            t
-        }
-        Fate::Lost => carry(p, hand.handed()),
-        Fate::Unreached => Left {
+    // An arm of one `match` for each fate would have its tables cleared first and copied out of it.
+    if let Fate::Unreached = fate {
+        return Left {
             store: p.store,
             rows: p.rows,
             hands: p.hands,
-        },
+        };
     }
+    let hand = p.hands.hand(w);
+    let mut t = carry(p, hand.handed());
+    if let Fate::Arrives = fate {
+        t.hands = t.hands.with(w, hand.answered());
+    }
+    t
 }

@@ -10,8 +10,8 @@ returns-in-Arrives-clause-shows c = search (reply_heard, or_number, rules)
 pub returns-in-Arrives-clause-form : goal.returns-in-Arrives-clause-form
 returns-in-Arrives-clause-form c = search (reply_form, or_number, rules)
 
-pub returns-in-Lost-clause-shows : goal.returns-in-Lost-clause-shows
-returns-in-Lost-clause-shows c = search (reply_lost, or_number, rules)
+pub returns-in_default-fate-clause-shows : goal.returns-in_default-fate-clause-shows
+returns-in_default-fate-clause-shows c = search (reply_lost, or_number, rules)
 
 pub returns-in-Unreached-clause-shows : goal.returns-in-Unreached-clause-shows
 returns-in-Unreached-clause-shows c = search (not_sent, rules)
