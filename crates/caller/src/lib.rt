@@ -22,7 +22,8 @@ pub fn of(sessions: Sessions, n: u32) -> Result<Session, Refusal>
     if !sessions.has(n) {
         return Err(Refusal::NoSlot);
     }
-    let session = sessions.session(n);
+    let found = sessions;
+    let session = found.session(n);
     if session.is_doomed() {
         return Err(Refusal::WasDoomed);
     }
@@ -34,5 +35,6 @@ pub fn ended(p: Plant, session: i64) -> Sessions
     ensures shows { kept_plant p ≡ true → view_plant (with_sessions p result) ≡ ending (some (nat_of session)) (view_plant p) }
     ensures form { plant_form p ≡ true → plant_form (with_sessions p result) ≡ true }
 {
-    p.sessions.freed(arguments::session(session))
+    let sessions = p.sessions;
+    sessions.freed(arguments::session(session))
 }

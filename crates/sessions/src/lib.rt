@@ -53,11 +53,18 @@ impl Sessions {
         self.used().len() as u8
     }
 
-    // The number has a slot.
-    pub fn has(&self, n: u32) -> bool
-        ensures { result ≡ has_slot n (view_sessions self.now) }
+    // The number has a slot. By value and by index: a loop of so few turns is unrolled and reads the table where it lies, and a walk of the slots
+    // has it copied first.
+    pub fn has(self, n: u32) -> bool
+        ensures { result ≡ has_slot n (view_sessions self) }
     {
-        self.used().iter().any(|s| s.is(n))
+        let end = (self.count as usize).min(Self::LIMIT);
+        for i in 0..end {
+            if n == self.slots[i].number {
+                return true;
+            }
+        }
+        false
     }
 
     // The session of a number; a number without a slot has the empty one.
