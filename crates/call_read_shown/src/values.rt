@@ -41,6 +41,17 @@ fn fields<F: Fn(Place) -> Field>(key: Key, k: u8, field: F) -> Cached
     t
 }
 
+// The store's field of a place, read where the store lies: `Store::field` has it copied.
+fn stored(store: &Store, q: Place) -> Field
+    ensures shows { view_field result ≡ view_store store.now (view_place q) }
+    ensures form { store_form store.now ≡ true → field_form result ≡ true }
+{
+    match store::index_of(q) {
+        Some(i) => store.fields[i],
+        None => Field::empty(),
+    }
+}
+
 // What a session with these changes of its own sees at the places of the key.
 pub fn near(store: &Store, rows: Rows, buffer: Buffer, own: Changes, key: Key, k: u8) -> Cached
     ensures shows { view_cached result ≡ record { key = k; fields = map (follow (follow (view_store store.now) (changes_in (pending (view_rows rows) (view_buffer buffer)))) (view_changes own)) (view_key key) } }
@@ -49,7 +60,7 @@ pub fn near(store: &Store, rows: Rows, buffer: Buffer, own: Changes, key: Key, k
     fields(
         key,
         k,
-        |q| sight::seen(store.field(q), rows, buffer, own, q),
+        |q| sight::seen(stored(store, q), rows, buffer, own, q),
     )
 }
 
