@@ -63,18 +63,14 @@ pub fn after(p: Plant, session: i64) -> Left
     ensures form { plant_form p ≡ true → plant_form (left p result) ≡ true }
 {
     let n = arguments::session(session);
-    let open = p.sessions;
-    let s = open.session(n);
-    let changes = s.changes;
-    let keys = p.keys;
-    let waiting = p.buffer;
-    let cached = p.cache;
-    let buffer = buffered(waiting, n, changes);
-    let cache = cached.up_to_date(keys, changes);
-    let sessions = open.freed(n);
-    Left {
-        buffer,
-        cache,
-        sessions,
-    }
+    let mut t = Left {
+        buffer: p.buffer,
+        cache: p.cache,
+        sessions: p.sessions,
+    };
+    let s = t.sessions.session(n);
+    t.buffer = buffered(t.buffer, n, s.changes);
+    t.cache = t.cache.up_to_date(p.keys, s.changes);
+    t.sessions = t.sessions.freed(n);
+    t
 }
