@@ -8,13 +8,22 @@ ghost use Rattle.line_parse.specs.columns.View.{view_option};
 
 use line_format::{BASE, CALL_WIDTH, DIGIT_ZERO, MINUS, NUMBER_WIDTH, SPACE};
 
+// Past the first eight columns at once, where they are spaces, as before most numbers.
+fn past_eight(columns: &[u8]) -> &[u8]
+    ensures same { C.trimmed result.now ≡ C.trimmed columns.now }
+    ensures within { length result.now ≤ length columns.now }
+{
+    columns.strip_prefix(&[SPACE; 8]).unwrap_or(columns)
+}
+
 // The columns past the spaces before them.
 fn past_spaces(columns: &[u8]) -> &[u8]
     ensures rest { result.now ≡ C.trimmed columns.now }
     ensures within { length result.now ≤ length columns.now }
 {
-    let from = columns.iter().position(|&b| b != SPACE);
-    &columns[from.unwrap_or(columns.len())..]
+    let near = past_eight(columns);
+    let from = near.iter().position(|&b| b != SPACE);
+    &near[from.unwrap_or(near.len())..]
 }
 
 // The number that digits make: at least one, and no leading zero.

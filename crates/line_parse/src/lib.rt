@@ -35,7 +35,9 @@ fn numbers_of(line: &[u8], count: usize) -> Option<[i64; MOST_NUMBERS]>
     }
     let mut numbers = [0; MOST_NUMBERS];
     for i in 0..count {
-        numbers[i] = columns::number_at(line, CALL_WIDTH + i * NUMBER_WIDTH)?;
+        // Its own columns alone, whose count is then known where this is compiled.
+        let at = CALL_WIDTH + i * NUMBER_WIDTH;
+        numbers[i] = columns::number_at(&line[at..at + NUMBER_WIDTH], 0)?;
     }
     Some(numbers)
 }
